@@ -1,0 +1,5 @@
+pub mod Layers
+pub mod Numbers
+pub mod Refusals
+pub mod Words
+pub mod Texts
