@@ -2,7 +2,7 @@
 use mathlib.Core.Path.{_≡_}
 use mathlib.Core.Bool.{Bool, true, false, cond}
 use mathlib.Core.List.{List, [], _∷_}
-use Prim.Native.Nat.{ℕ, _+_, _-_, _≤_}
+use Prim.Native.Nat.{ℕ, _+_, _-_, _≤_, _<_}
 use lib.Dec.{eqb}
 use lib.ListN.{length, getD, take}
 use Rattle.std.specs.declared.option.Option.{Option}
@@ -37,16 +37,22 @@ sameAnswer silence (reply b) = false
 sameAnswer (reply a) silence = false
 sameAnswer (reply a) (reply b) = sameBytes a b
 
-abbrev pub orLater : Bool → ℕ → Option ℕ → Option ℕ
-orLater true k later = later
-orLater false k later = Some k
+-- the first of two that is there
+abbrev pub orElse : Option ℕ → Option ℕ → Option ℕ
+orElse None later = later
+orElse (Some k) later = Some k
+
+-- k where something differs
+abbrev pub unless : Bool → ℕ → Option ℕ
+unless true k = None
+unless false k = Some k
 
 -- the first request, counted from k, that gets another answer on the right than on the left
 abbrev pub firstDifference : ℕ → Car → Car → List (List ℕ) → Option ℕ
 firstDifference k left right [] = None
-firstDifference k left right (q ∷ qs) = orLater (sameAnswer (left [] q) (right [] q)) k (firstDifference (k + 1) (after q left) (after q right) qs)
+firstDifference k left right (q ∷ qs) = orElse (unless (sameAnswer (left [] q) (right [] q)) k) (firstDifference (k + 1) (after q left) (after q right) qs)
 
--- nothing differs where all answers are the same; else the answers before request k are the same, and those to it are not
-abbrev pub Differs : List Answer → List Answer → Option ℕ → Type 0
-Differs xs ys None = xs ≡ ys
-Differs xs ys (Some k) = (1 ≤ k) × (k ≤ length xs) × (take (k - 1) xs ≡ take (k - 1) ys) × (getD xs (k - 1) silence ≡ getD ys (k - 1) silence → ⊥)
+-- requests are counted from k: nothing differs where all answers are the same; where request j differs, the answers before it are the same, and those to it are not
+abbrev pub Differs : ℕ → List Answer → List Answer → Option ℕ → Type 0
+Differs k xs ys None = xs ≡ ys
+Differs k xs ys (Some j) = (k ≤ j) × (j < k + length xs) × (take (j - k) xs ≡ take (j - k) ys) × (getD xs (j - k) silence ≡ getD ys (j - k) silence → ⊥)
