@@ -13,7 +13,7 @@ use Rattle.std.specs.shelf.Text.{sameBytes}
 use Rattle.std.proofs.shelf.Lists.{drop-more, drop-all, take-more}
 use Rattle.std.proofs.shelf.Tests.{cond-true, lt-ltb, and-left, cases-bool}
 use Rattle.std.proofs.shelf.Equals.{sameBytes-decides}
-use Rattle.buffer.specs.Bytes.{byteAt}
+use Rattle.bytes.specs.Bytes.{byteAt}
 use Rattle.link.specs.Visits.{sameByte}
 
 pub byte-there : (p : List ℕ) (i : ℕ) → i < length p → byteAt p i ≡ Some (getD p i 0)

@@ -4,7 +4,7 @@ use mathlib.Core.Bool.{Bool, true, false}
 use mathlib.Core.List.{List, [], _∷_}
 use Prim.Native.Nat.{ℕ, _≤_}
 use lib.ListN.{length}
-use Rattle.buffer.specs.Bytes.{Bytes}
+use Rattle.bytes.specs.Bytes.{Bytes}
 
 -- what one request gets
 pub data Answer : Type 0 where

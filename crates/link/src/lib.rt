@@ -2,7 +2,7 @@ ghost use mathlib.Core.Path.{_≡_};
 ghost use mathlib.Core.List.{List, []};
 ghost use Prim.Native.Nat.{ℕ};
 ghost use lib.ListN.{length};
-ghost use Rattle.buffer.specs.Bytes.{byteAt};
+ghost use Rattle.bytes.specs.Bytes.{byteAt};
 ghost use Rattle.link.specs.Cars.{Car, Sound, Short, after, answered, replyOf};
 
 pub mod visits;

@@ -3,7 +3,7 @@ use mathlib.Core.Bool.{true, false}
 use Prim.Native.Nat.{_<_, _≤_}
 use native.Mathlib.Omega.{arith}
 use lib.ListN.{length}
-use Rattle.buffer.specs.Bytes.{byteAt}
+use Rattle.bytes.specs.Bytes.{byteAt}
 use Rattle.link.specs.Visits.{sameByte}
 use Rattle.link.proofs.Replies.{other-length, bytes-differ, bytes-agree, all-agree}
 use Rattle.link.proofs.visits.same_reply.Needs as need

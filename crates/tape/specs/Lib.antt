@@ -1,0 +1,4 @@
+pub mod Entries
+pub mod Judgement
+pub mod Plays
+pub mod Views
