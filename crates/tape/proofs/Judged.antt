@@ -18,7 +18,7 @@ use Rattle.refusal.specs.declared.errors.LinkError.the-variants.{Size, Mark, Pa
 use Rattle.refusal.specs.declared.reasons.Reason.the-variants.{Link}
 use Rattle.refusal.specs.declared.refusals.Refusal.{Refusal}
 use Rattle.tape.specs.Entries.{marked, padded, sized, requestLength, replyCount, Fit, Exchange, exchangeOf}
-use Rattle.tape.specs.Judgement.{judged, wrong, orElse, passed, refusalOf}
+use Rattle.tape.specs.Judgement.{judged, wrong, orElse, passed, counted, refusalOf}
 
 pub passed-err : (o : Option Refusal) (x : Refusal) → passed o ≡ Err x → o ≡ Some x
 passed-err None x e = let z : _≡_ {A = ℕ} 0 1 = cc in absurd (omega arith)
@@ -27,6 +27,14 @@ passed-err (Some y) x e = cc
 pub passed-ok : (o : Option Refusal) → passed o ≡ Ok tt → o ≡ None
 passed-ok None e = refl
 passed-ok (Some y) e = let z : _≡_ {A = ℕ} 0 1 = cc in absurd (omega arith)
+
+pub counted-err : (n : ℕ) (o : Option Refusal) (x : Refusal) → counted n o ≡ Err x → o ≡ Some x
+counted-err n None x e = let z : _≡_ {A = ℕ} 0 1 = cc in absurd (omega arith)
+counted-err n (Some y) x e = cc
+
+pub counted-ok : (n : ℕ) (o : Option Refusal) (m : ℕ) → counted n o ≡ Ok m → o ≡ None
+counted-ok n None m e = refl
+counted-ok n (Some y) m e = let z : _≡_ {A = ℕ} 0 1 = cc in absurd (omega arith)
 
 -- the judgement of the entry at i comes before that of the rest
 module _ (rs : List (List ℕ)) (i : ℕ) (within : i < length rs) (e : List ℕ) (is : e ≡ getD rs i []) where

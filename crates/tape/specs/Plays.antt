@@ -1,11 +1,15 @@
 -- How a tape answers. Assumes nothing.
+use mathlib.Core.Path.{_≡_}
 use mathlib.Core.Bool.{cond}
 use mathlib.Core.List.{List, [], _∷_, map}
 use Prim.Native.Nat.{ℕ}
+use Rattle.std.specs.declared.option.Option.{Option}
 use Rattle.std.specs.declared.option.Option.the-variants.{Some, None}
 use Rattle.std.specs.shelf.Text.{sameBytes}
 use Rattle.bytes.specs.Records.{recordsOf}
 use Rattle.link.specs.Cars.{Answer, silence, reply, Car}
+use Rattle.link.specs.Visits.{answers}
+use Rattle.refusal.specs.declared.refusals.Refusal.{Refusal}
 use Rattle.tape.specs.Entries.{Exchange, exchangeOf}
 use Rattle.tape.specs.Judgement.{refusalOf}
 
@@ -24,6 +28,10 @@ abbrev pub tapeCar : List Exchange → Car
 tapeCar es [] q = answerOf es q
 tapeCar es (p ∷ ps) q = tapeCar (moved es p) ps q
 
+-- sent the requests of its exchanges in order, a tape gives their replies in order
+abbrev pub Replays : List Exchange → Type 0
+Replays es = answers (tapeCar es) (map (λ e. e .asked) es) ≡ map (λ e. reply (e .given)) es
+
 -- how a tape stands: the exchanges that are left, and the present reply
 pub record Standing : Type 0 where
   pub left : List Exchange
@@ -33,6 +41,11 @@ pub record Standing : Type 0 where
 abbrev pub blank : Standing
 blank = record { left = []; shown = [] }
 
--- a tape once it was opened on bytes: before the first entry, with an empty present reply; a refusal changes nothing
+-- a tape that was given new exchanges, unless they were refused: it stands before the first, with an empty present reply
+abbrev pub unlessRefused : Option Refusal → List Exchange → Standing → Standing
+unlessRefused None es s = record { left = es; shown = [] }
+unlessRefused (Some x) es s = s
+
+-- a tape once it was opened on bytes
 abbrev pub opened : List ℕ → Standing → Standing
-opened bs s = elim (refusalOf bs) [ None ↦ record { left = map exchangeOf (recordsOf bs); shown = [] } | Some x ↦ s ]
+opened bs s = unlessRefused (refusalOf bs) (map exchangeOf (recordsOf bs)) s

@@ -1,7 +1,11 @@
 ghost use mathlib.Core.Path.{_≡_};
+ghost use mathlib.Core.List.{List};
+ghost use Prim.Native.Nat.{ℕ};
 ghost use Rattle.std.specs.Vec.{made};
 ghost use Rattle.tape.specs.Judgement.{verdict};
-ghost use Rattle.tape.specs.Plays.{blank, opened, tapeCar};
+ghost use Rattle.tape.specs.Plays.{Replays, blank, opened, tapeCar};
+ghost use Rattle.tape.specs.Fills.{OnlyFill};
+ghost use Rattle.tape.specs.Rules.{Judged};
 ghost use Rattle.tape.specs.Views.{standing};
 use crate::Tape;
 use crate::entries::decode::decode_all;
@@ -25,10 +29,14 @@ impl Tape {
         })
     }
 
-    // Takes up other entries, and tells how many; a refusal leaves the tape as it was.
+    // Takes up other entries, and tells how many; a refusal leaves the tape as it was. Fill makes no difference: with any other
+    // in its place the answer is the same, and the tape stands the same, so it means the same car.
     pub fn open(&mut self, bytes: &[u8]) -> Result<usize, Refusal>
         ensures result { λ r. ⌜ r ≡ verdict (now (bytes .entry)) ⌝ }
         ensures after { λ _. ⌜ standing (now (self .exit)) ≡ opened (now (bytes .entry)) (standing (now (self .entry))) ⌝ }
+        ensures rules { λ r. ⌜ Judged (now (bytes .entry)) r ⌝ }
+        ensures fill { λ r. ⌜ ((other : List ℕ) → OnlyFill (now (bytes .entry)) other → (verdict other ≡ r) × (opened other (standing (now (self .entry))) ≡ standing (now (self .exit)))) ⌝ }
+        ensures plays { λ _. ⌜ Replays (standing (now (self .exit)) .left) ⌝ }
     {
         let n = judge(bytes)?;
         decode_all(&mut self.entries, bytes);

@@ -1,0 +1,27 @@
+-- Fill: what follows the reply in an entry's frame. Assumes nothing.
+use mathlib.Core.Path.{_≡_}
+use mathlib.Core.Bool.{Bool, cond}
+use mathlib.Core.List.{List, [], _∷_}
+use Prim.Native.Nat.{ℕ, _+_, _*_, _/_, _%_, _≤_, _<_}
+use lib.Dec.{leb}
+use lib.ListN.{length, getD}
+use Rattle.bytes.specs.Records.{recordAt}
+use Rattle.tape.specs.Entries.{replyCount}
+
+-- two tapes differ only in fill: they are equally long, and in each entry the bytes up to the reply's end are the same
+pub record OnlyFill (bs cs : List ℕ) : Type 0 where
+  pub size : length bs ≡ length cs
+  pub bytes : (k i : ℕ) → 1 ≤ k → k ≤ length bs / 18 → i < 18 → i < 11 + replyCount (recordAt bs k) → getD (recordAt bs k) i 0 ≡ getD (recordAt cs k) i 0
+
+-- whether byte p of a tape is fill, by the count in the frame that it lies in
+abbrev pub isFill : List ℕ → ℕ → Bool
+isFill bs p = leb (11 + getD bs (18 * (p / 18) + 10) 0) (p % 18)
+
+-- bytes from place p on, with another fill
+abbrev pub fillFrom : ℕ → List ℕ → ℕ → List ℕ → List ℕ
+fillFrom f bs p [] = []
+fillFrom f bs p (x ∷ xs) = cond (isFill bs p) f x ∷ fillFrom f bs (p + 1) xs
+
+-- the same tape with every fill byte replaced by f
+abbrev pub refilled : ℕ → List ℕ → List ℕ
+refilled f bs = fillFrom f bs 0 bs
