@@ -1,0 +1,4 @@
+pub mod Services
+pub mod Cars
+pub mod Standings
+pub mod Views
