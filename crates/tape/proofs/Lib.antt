@@ -3,4 +3,4 @@ pub mod Sends
 pub mod Sounds
 pub mod Faults
 pub mod Frames
-pub mod Refilled
+pub mod Inverted

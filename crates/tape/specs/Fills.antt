@@ -2,7 +2,7 @@
 use mathlib.Core.Path.{_≡_}
 use mathlib.Core.Bool.{Bool, cond}
 use mathlib.Core.List.{List, [], _∷_}
-use Prim.Native.Nat.{ℕ, _+_, _*_, _/_, _%_, _≤_, _<_}
+use Prim.Native.Nat.{ℕ, _+_, _-_, _*_, _/_, _%_, _≤_, _<_}
 use lib.Dec.{leb}
 use lib.ListN.{length, getD}
 use Rattle.bytes.specs.Records.{recordAt}
@@ -17,11 +17,15 @@ pub record OnlyFill (bs cs : List ℕ) : Type 0 where
 abbrev pub isFill : List ℕ → ℕ → Bool
 isFill bs p = leb (11 + getD bs (18 * (p / 18) + 10) 0) (p % 18)
 
--- bytes from place p on, with another fill
-abbrev pub fillFrom : ℕ → List ℕ → ℕ → List ℕ → List ℕ
-fillFrom f bs p [] = []
-fillFrom f bs p (x ∷ xs) = cond (isFill bs p) f x ∷ fillFrom f bs (p + 1) xs
+-- byte p of a tape whose fill is inverted
+abbrev pub invertedByte : List ℕ → ℕ → ℕ → ℕ
+invertedByte bs p x = cond (isFill bs p) (255 - x) x
 
--- the same tape with every fill byte replaced by f
-abbrev pub refilled : ℕ → List ℕ → List ℕ
-refilled f bs = fillFrom f bs 0 bs
+-- bytes from place p on, so changed
+abbrev pub invertFrom : List ℕ → ℕ → List ℕ → List ℕ
+invertFrom bs p [] = []
+invertFrom bs p (x ∷ xs) = invertedByte bs p x ∷ invertFrom bs (p + 1) xs
+
+-- the same tape with every fill byte replaced by another, all its bits inverted
+abbrev pub inverted : List ℕ → List ℕ
+inverted bs = invertFrom bs 0 bs

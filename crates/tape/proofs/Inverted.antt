@@ -11,33 +11,33 @@ use Rattle.std.proofs.shelf.Lists.{getD-take, getD-drop, take-more, length-take
 use Rattle.std.proofs.shelf.Tests.{cond-false, lt-leb}
 use Rattle.bytes.specs.Records.{recordAt}
 use Rattle.tape.specs.Entries.{replyCount}
-use Rattle.tape.specs.Fills.{OnlyFill, isFill, fillFrom, refilled}
+use Rattle.tape.specs.Fills.{OnlyFill, isFill, invertedByte, invertFrom, inverted}
 
-module _ (f : ℕ) (bs : List ℕ) where
-  fill-push : (k : ℕ) (xs : List ℕ) (x : ℕ) → fillFrom f bs k (xs ++ x ∷ []) ≡ fillFrom f bs k xs ++ cond (isFill bs (k + length xs)) f x ∷ []
-  fill-push k [] x = let e : k ≡ k + 0 = omega arith in ap (λ n. cond (isFill bs n) f x ∷ []) e
+module _ (bs : List ℕ) where
+  fill-push : (k : ℕ) (xs : List ℕ) (x : ℕ) → invertFrom bs k (xs ++ x ∷ []) ≡ invertFrom bs k xs ++ invertedByte bs (k + length xs) x ∷ []
+  fill-push k [] x = let e : k ≡ k + 0 = omega arith in ap (λ n. invertedByte bs n x ∷ []) e
   fill-push k (y ∷ ys) x =
       let e : k + 1 + length ys ≡ k + suc (length ys) = omega arith in
-      ap (λ l. cond (isFill bs k) f y ∷ l) (fill-push (k + 1) ys x ∙ ap (λ n. fillFrom f bs (k + 1) ys ++ cond (isFill bs n) f x ∷ []) e)
+      ap (λ l. invertedByte bs k y ∷ l) (fill-push (k + 1) ys x ∙ ap (λ n. invertFrom bs (k + 1) ys ++ invertedByte bs n x ∷ []) e)
 
   -- one byte more
-  pub fill-more : (p b : ℕ) (done : List ℕ) → p < length bs → done ≡ fillFrom f bs 0 (take p bs) → b ≡ cond (isFill bs p) f (getD bs p 0) → done ++ b ∷ [] ≡ fillFrom f bs 0 (take (p + 1) bs)
+  pub fill-more : (p b : ℕ) (done : List ℕ) → p < length bs → done ≡ invertFrom bs 0 (take p bs) → b ≡ invertedByte bs p (getD bs p 0) → done ++ b ∷ [] ≡ invertFrom bs 0 (take (p + 1) bs)
   fill-more p b done h d e =
       let more = take-more bs p 0 h in
       let at : 0 + length (take p bs) ≡ p = omega (arith, length-take-le p bs (omega arith)) in
       let push = fill-push 0 (take p bs) (getD bs p 0) in
-      (λ t. d t ++ e t ∷ []) ∙ ap (λ n. fillFrom f bs 0 (take p bs) ++ cond (isFill bs n) f (getD bs p 0) ∷ []) (sym at) ∙ sym push ∙ ap (fillFrom f bs 0) (sym more)
+      (λ t. d t ++ e t ∷ []) ∙ ap (λ n. invertFrom bs 0 (take p bs) ++ invertedByte bs n (getD bs p 0) ∷ []) (sym at) ∙ sym push ∙ ap (invertFrom bs 0) (sym more)
 
-  length-fill : (k : ℕ) (xs : List ℕ) → length (fillFrom f bs k xs) ≡ length xs
+  length-fill : (k : ℕ) (xs : List ℕ) → length (invertFrom bs k xs) ≡ length xs
   length-fill k [] = refl
   length-fill k (x ∷ xs) = ap suc (length-fill (k + 1) xs)
 
-  getD-fill : (k : ℕ) (xs : List ℕ) (p : ℕ) → p < length xs → getD (fillFrom f bs k xs) p 0 ≡ cond (isFill bs (k + p)) f (getD xs p 0)
+  getD-fill : (k : ℕ) (xs : List ℕ) (p : ℕ) → p < length xs → getD (invertFrom bs k xs) p 0 ≡ invertedByte bs (k + p) (getD xs p 0)
   getD-fill k [] p h = absurd (omega arith)
-  getD-fill k (x ∷ xs) zero h = let e : k ≡ k + 0 = omega arith in ap (λ n. cond (isFill bs n) f x) e
+  getD-fill k (x ∷ xs) zero h = let e : k ≡ k + 0 = omega arith in ap (λ n. invertedByte bs n x) e
   getD-fill k (x ∷ xs) (suc p) h =
       let e : k + 1 + p ≡ k + suc p = omega arith in
-      getD-fill (k + 1) xs p (omega arith) ∙ ap (λ n. cond (isFill bs n) f (getD xs p 0)) e
+      getD-fill (k + 1) xs p (omega arith) ∙ ap (λ n. invertedByte bs n (getD xs p 0)) e
 
   byte-at : (l : List ℕ) (k i : ℕ) → i < 18 → getD (recordAt l k) i 0 ≡ getD l (18 * (k - 1) + i) 0
   byte-at l k i h = getD-take 18 (drop (18 * (k - 1)) l) i 0 h ∙ getD-drop (18 * (k - 1)) l i 0
@@ -50,11 +50,11 @@ module _ (f : ℕ) (bs : List ℕ) where
       let count : getD bs (18 * (p / 18) + 10) 0 ≡ replyCount (recordAt bs k) = ap (λ n. getD bs n 0) frame ∙ sym (byte-at bs k 10 (lit< tt)) in
       lt-leb (11 + getD bs (18 * (p / 18) + 10) 0) (p % 18) (omega (arith, place, count, c))
 
-  same-byte : (k i : ℕ) → 1 ≤ k → k ≤ length bs / 18 → i < 18 → i < 11 + replyCount (recordAt bs k) → getD (recordAt bs k) i 0 ≡ getD (recordAt (refilled f bs) k) i 0
+  same-byte : (k i : ℕ) → 1 ≤ k → k ≤ length bs / 18 → i < 18 → i < 11 + replyCount (recordAt bs k) → getD (recordAt bs k) i 0 ≡ getD (recordAt (inverted bs) k) i 0
   same-byte k i some within h c =
       let p = 18 * (k - 1) + i in
       let inside : p < length bs = omega arith in
-      byte-at bs k i h ∙ sym (getD-fill 0 bs p inside ∙ ap (λ n. cond (isFill bs n) f (getD bs p 0)) (zero-add p) ∙ cond-false _ _ _ (kept k i h c)) ∙ sym (byte-at (refilled f bs) k i h)
+      byte-at bs k i h ∙ sym (getD-fill 0 bs p inside ∙ ap (λ n. invertedByte bs n (getD bs p 0)) (zero-add p) ∙ cond-false _ _ _ (kept k i h c)) ∙ sym (byte-at (inverted bs) k i h)
 
-  pub refilled-only : OnlyFill bs (refilled f bs)
-  refilled-only = record { size = sym (length-fill 0 bs); bytes = same-byte }
+  pub inverted-only : OnlyFill bs (inverted bs)
+  inverted-only = record { size = sym (length-fill 0 bs); bytes = same-byte }
