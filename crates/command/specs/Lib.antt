@@ -1,0 +1,3 @@
+pub mod Words
+pub mod Failures
+pub mod Requests
