@@ -1,0 +1,99 @@
+// The handheld: plays a visit on a tape, and shows that its fill makes no difference.
+use command::failures::Failure;
+use command::failures::FailureDisplay;
+use command::failures::FailureFromAlloc;
+use command::failures::FailureFromNoRoom;
+use command::failures::FailureFromOutput;
+use command::failures::FailureFromRefusal;
+use command::requests::read_requests;
+use command::words::Command;
+use command::words::command_of;
+use hex::encode;
+use link::Link;
+use link::visits::read_reply;
+use link::visits::side_by_side;
+use std::env;
+use std::fs;
+use tape::Tape;
+use tape::fills::invert_fill;
+use tape::plays::TapeLink;
+
+fn main(rt: LibcRuntime) -> Result<(), Failure> {
+    let outcome = run(&rt);
+    if let Err(failure) = outcome {
+        let _ = eprintln!(rt, "handheld: {failure}");
+    }
+    outcome
+}
+
+fn run(rt: &LibcRuntime) -> Result<(), Failure> {
+    let mut words = Vec::new(rt.alloc());
+    for word in env::args(rt)?.skip(1) {
+        words.push(word)?;
+    }
+    let [first, rest @ ..] = words.as_slice() else {
+        return Err(Failure::Usage);
+    };
+    match command_of(first.as_str(), rest.len()) {
+        Some(Command::Help) => help(rt),
+        Some(Command::Visit) => visit(rt, rest),
+        None => Err(Failure::Usage),
+    }
+}
+
+fn help(rt: &LibcRuntime) -> Result<(), Failure> {
+    println!(rt, "handheld visit TAPE REQUEST...")?;
+    println!(rt, "  opens the tape in the file TAPE, sends each REQUEST and prints its reply or silence;")?;
+    println!(rt, "  then plays the same visit beside a tape with every fill byte inverted, and compares.")?;
+    println!(rt, "  A REQUEST is bytes in hexadecimal, as 03 or 0902; - is a request of no bytes.")?;
+    println!(rt, "handheld --help")?;
+    println!(rt, "  prints these lines.")?;
+    Ok(())
+}
+
+fn visit(rt: &LibcRuntime, words: &[String]) -> Result<(), Failure> {
+    let [path, rest @ ..] = words else {
+        return Err(Failure::Usage);
+    };
+    let requests = read_requests(rt.alloc(), rest)?;
+    let Ok(bytes) = fs::read(rt, path.as_str()) else {
+        return Err(Failure::NoFile);
+    };
+    let mut tape = Tape::new(rt.alloc())?;
+    let entries = tape.open(bytes.as_slice())?;
+    println!(rt, "tape {path}: {entries} entries")?;
+    let replies = play(rt, &mut tape, requests.as_slice())?;
+    let verdict = compare(rt, &mut tape, bytes.as_slice(), requests.as_slice())?;
+    let sent = requests.len();
+    println!(rt, "done: {sent} requests sent, {replies} answered; beside inverted fill {verdict}")?;
+    Ok(())
+}
+
+// Sends each request, prints what it gets, and counts the replies.
+fn play(rt: &LibcRuntime, tape: &mut Tape, requests: &[Vec<u8>]) -> Result<usize, Failure> {
+    let mut replies = 0usize;
+    for request in requests {
+        let asked = encode(rt.alloc(), request.as_slice())?;
+        if tape.send(request.as_slice()) {
+            let reply = read_reply(tape, rt.alloc())?;
+            let given = encode(rt.alloc(), reply.as_slice())?;
+            println!(rt, "{asked} -> {given}")?;
+            replies = replies.saturating_add(1);
+        } else {
+            println!(rt, "{asked} -> silence")?;
+        }
+    }
+    Ok(replies)
+}
+
+// Plays the visit anew, beside the same tape with every fill byte inverted, and says what differs.
+fn compare(rt: &LibcRuntime, tape: &mut Tape, bytes: &[u8], requests: &[Vec<u8>]) -> Result<String, Failure> {
+    let changed = invert_fill(rt.alloc(), bytes)?;
+    let mut other = Tape::new(rt.alloc())?;
+    tape.open(bytes)?;
+    other.open(changed.as_slice())?;
+    match side_by_side(tape, &mut other, requests) {
+        None => Ok(format!(rt.alloc(), "nothing differs")?),
+        Some(k) => Ok(format!(rt.alloc(), "request {k} differs")?),
+    }
+}
