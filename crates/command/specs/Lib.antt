@@ -1,3 +1,4 @@
 pub mod Words
 pub mod Failures
 pub mod Requests
+pub mod Fills

@@ -5,17 +5,16 @@ use command::failures::FailureFromAlloc;
 use command::failures::FailureFromNoRoom;
 use command::failures::FailureFromOutput;
 use command::failures::FailureFromRefusal;
+use command::fills::compare_fills;
 use command::requests::read_requests;
 use command::words::Command;
 use command::words::command_of;
 use hex::encode;
 use link::Link;
 use link::visits::read_reply;
-use link::visits::side_by_side;
 use std::env;
 use std::fs;
 use tape::Tape;
-use tape::fills::invert_fill;
 use tape::plays::TapeLink;
 
 fn main(rt: LibcRuntime) -> Result<(), Failure> {
@@ -63,9 +62,13 @@ fn visit(rt: &LibcRuntime, words: &[String]) -> Result<(), Failure> {
     let entries = tape.open(bytes.as_slice())?;
     println!(rt, "tape {path}: {entries} entries")?;
     let replies = play(rt, &mut tape, requests.as_slice())?;
-    let verdict = compare(rt, &mut tape, bytes.as_slice(), requests.as_slice())?;
+    match compare_fills(rt.alloc(), bytes.as_slice(), requests.as_slice())? {
+        None => println!(rt, "beside the same tape with every fill byte inverted: nothing differs")?,
+        Some(k) => println!(rt, "beside the same tape with every fill byte inverted: request {k} differs")?,
+    }
     let sent = requests.len();
-    println!(rt, "done: {sent} requests sent, {replies} answered; beside inverted fill {verdict}")?;
+    let silent = sent.saturating_sub(replies);
+    println!(rt, "done: tape opened, {sent} requests sent, {replies} replies, {silent} silent, fill compared")?;
     Ok(())
 }
 
@@ -84,16 +87,4 @@ fn play(rt: &LibcRuntime, tape: &mut Tape, requests: &[Vec<u8>]) -> Result<usize
         }
     }
     Ok(replies)
-}
-
-// Plays the visit anew, beside the same tape with every fill byte inverted, and says what differs.
-fn compare(rt: &LibcRuntime, tape: &mut Tape, bytes: &[u8], requests: &[Vec<u8>]) -> Result<String, Failure> {
-    let changed = invert_fill(rt.alloc(), bytes)?;
-    let mut other = Tape::new(rt.alloc())?;
-    tape.open(bytes)?;
-    other.open(changed.as_slice())?;
-    match side_by_side(tape, &mut other, requests) {
-        None => Ok(format!(rt.alloc(), "nothing differs")?),
-        Some(k) => Ok(format!(rt.alloc(), "request {k} differs")?),
-    }
 }
