@@ -37,9 +37,9 @@ code-clears b e =
     ⊎-elim
     (λ three. let l : byCode b ≡ ListCodes = ap byCode three in let z : _≡_ {A = ℕ} 0 1 = cc in absurd (omega arith))
     (λ n3. ⊎-elim
-      (λ four. four)
-      (λ n4. let u = other-code b n3 n4 in let z : _≡_ {A = ℕ} 0 1 = cc in absurd (omega arith))
-      (cases-eq b 4))
+    (λ four. four)
+    (λ n4. let u = other-code b n3 n4 in let z : _≡_ {A = ℕ} 0 1 = cc in absurd (omega arith))
+    (cases-eq b 4))
     (cases-eq b 3)
 
 clears-only : (q : List ℕ) → serviceOf q ≡ ClearCodes → q ≡ 4 ∷ []

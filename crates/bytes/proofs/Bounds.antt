@@ -50,12 +50,12 @@ pushed-take : (n : ℕ) (ys : List ℕ) (y : ℕ) → pushed n (take n ys) y ≡
 pushed-take n ys y =
     ⊎-elim
     (λ few.
-      let all : take n ys ≡ ys = take-all n ys (omega arith) in
-      let whole : take n (ys ++ y ∷ []) ≡ ys ++ y ∷ [] = take-all n (ys ++ y ∷ []) (omega (arith, length-push ys y)) in
-      ap (λ zs. pushed n zs y) all ∙ cond-true _ _ _ (lt-ltb _ _ few) ∙ sym whole)
+    let all : take n ys ≡ ys = take-all n ys (omega arith) in
+    let whole : take n (ys ++ y ∷ []) ≡ ys ++ y ∷ [] = take-all n (ys ++ y ∷ []) (omega (arith, length-push ys y)) in
+    ap (λ zs. pushed n zs y) all ∙ cond-true _ _ _ (lt-ltb _ _ few) ∙ sym whole)
     (λ full.
-      let none : n ≤ length (take n ys) = omega (arith, length-take n ys) in
-      cond-false _ _ _ (le-ltb _ _ none) ∙ sym (take-append-le n ys (y ∷ []) full))
+    let none : n ≤ length (take n ys) = omega (arith, length-take n ys) in
+    cond-false _ _ _ (le-ltb _ _ none) ∙ sym (take-append-le n ys (y ∷ []) full))
     (cases-lt (length ys) n)
 
 pub prefix-more : (n : ℕ) (xs : List ℕ) (i : ℕ) → i < length xs → pushed n (take n (take i xs)) (getD xs i 0) ≡ take n (take (i + 1) xs)

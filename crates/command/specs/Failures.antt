@@ -11,6 +11,6 @@ abbrev pub failureText : Failure → List ℕ
 failureText Usage = codes "no such command; try handheld --help"
 failureText NoFile = codes "the tape's file cannot be read"
 failureText (Refused x) = codes "the tape is refused: " ++ refusalText x
-failureText (NotHex k) = codes "request " ++ (decimal k ++ codes " is no hexadecimal text")
+failureText (NotHex k) = codes "request #" ++ (decimal k ++ codes " is no hexadecimal text")
 failureText NoMemory = codes "there is no memory left"
 failureText NoOutput = codes "the output cannot be written"

@@ -32,7 +32,7 @@ pub impl fmt::Display for Failure as FailureDisplay {
             Failure::Usage => f.write_str("no such command; try handheld --help"),
             Failure::NoFile => f.write_str("the tape's file cannot be read"),
             Failure::Refused(refusal) => write!(f, "the tape is refused: {refusal}"),
-            Failure::NotHex(k) => write!(f, "request {k} is no hexadecimal text"),
+            Failure::NotHex(k) => write!(f, "request #{k} is no hexadecimal text"),
             Failure::NoMemory => f.write_str("there is no memory left"),
             Failure::NoOutput => f.write_str("the output cannot be written"),
         }

@@ -11,7 +11,11 @@ use tape::plays::TapeLink;
 
 // Plays a visit on a tape, and beside it on the same tape with every fill byte inverted. Tells the first request that gets
 // another answer, of which there is never one: no fill byte is part of a reply.
-pub fn compare_fills(heap: Global, bytes: &[u8], requests: &[Vec<u8>]) -> Result<Option<usize>, Failure>
+pub fn compare_fills(
+    heap: Global,
+    bytes: &[u8],
+    requests: &[Vec<u8>],
+) -> Result<Option<usize>, Failure>
     ensures { λ r. ⌜ NoneDiffers (verdict (now (bytes .entry))) r ⌝ }
 {
     let changed = invert_fill(heap, bytes)?;

@@ -34,18 +34,42 @@ fn thirty_codes_and_no_more() -> Result<(), Fail> {
     check_eq(full.count(), 62)?;
     match BenchUnit::new(&[0; 31]) {
         Ok(_) => Err(Fail::new("31 codes")),
-        Err(refusal) => check_eq((refusal.number(), refusal.record(), refusal.layer().number()), (6, 0, 5)),
+        Err(refusal) => check_eq(
+            (refusal.number(), refusal.record(), refusal.layer().number()),
+            (6, 0, 5),
+        ),
     }
 }
 
 // A tape and a unit that mean the same car for a while, side by side.
 #[test]
 fn two_makes_of_link(rt: LibcRuntime) -> Result<(), Fail> {
-    let entry = [b'Q', b'A', 1, 3, 0, 0, 0, 0, 0, 0, 4, 0x43, 1, 0x01, 0x33, 9, 9, 9];
+    let entry = [
+        b'Q',
+        b'A',
+        1,
+        3,
+        0,
+        0,
+        0,
+        0,
+        0,
+        0,
+        4,
+        0x43,
+        1,
+        0x01,
+        0x33,
+        9,
+        9,
+        9,
+    ];
     let mut tape = Tape::new(rt.alloc())?;
     check_eq(tape.open(&entry).is_ok(), true)?;
     let mut unit = made(&[0x0133])?;
     let once = vec![in rt.alloc(); vec![in rt.alloc(); 5]?, vec![in rt.alloc(); 3]?]?;
     check_eq(side_by_side(&mut tape, &mut unit, once.as_slice()), None)?;
-    check_eq(side_by_side(&mut tape, &mut unit, once.as_slice()), Some(2)).note("the tape has played")
+    check_eq(side_by_side(&mut tape, &mut unit, once.as_slice()), Some(2)).note(
+        "the tape has played",
+    )
 }

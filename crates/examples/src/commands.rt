@@ -40,12 +40,15 @@ fn requests(rt: LibcRuntime) -> Result<(), Fail> {
 
 #[test]
 fn a_bad_request_is_told(rt: LibcRuntime) -> Result<(), Fail> {
-    let words = vec![in rt.alloc(); String::from_str(rt.alloc(), "03")?, String::from_str(rt.alloc(), "x3")?]?;
+    let words = vec![in rt.alloc();
+        String::from_str(rt.alloc(), "03")?,
+        String::from_str(rt.alloc(), "x3")?,
+    ]?;
     match read_requests(rt.alloc(), words.as_slice()) {
         Ok(_) => Err(Fail::new("x3 was read")),
         Err(failure) => {
             let line = format!(rt.alloc(), "{failure}")?;
-            check(line.as_str() == "request 2 is no hexadecimal text")
+            check(line.as_str() == "request #2 is no hexadecimal text")
         }
     }
 }
@@ -71,7 +74,10 @@ fn a_refused_tape_is_told(rt: LibcRuntime) -> Result<(), Fail> {
         Ok(_) => Err(Fail::new("a part of an entry")),
         Err(failure) => {
             let line = format!(rt.alloc(), "{failure}")?;
-            check(line.as_str() == "the tape is refused: 1 at record 0, layer 5: the tape has more than 2,000 entries, or a part of one")
+            check(
+                line.as_str()
+                    == "the tape is refused: 1 at record 0, layer 5: the tape has more than 2,000 entries, or a part of one",
+            )
         }
     }
 }

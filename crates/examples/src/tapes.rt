@@ -7,10 +7,29 @@ use tape::Tape;
 use tape::fills::invert_fill;
 use tape::plays::TapeLink;
 
-// Request 03 gets 43 00, in a frame filled with one value.
+// The request of one byte, 3, gets 43 00, in a frame filled with one value.
 fn short_reply(fill: u8) -> [u8; 18] {
     let f = fill;
-    [b'Q', b'A', 1, 3, 0, 0, 0, 0, 0, 0, 2, 0x43, 0, f, f, f, f, f]
+    [
+        b'Q',
+        b'A',
+        1,
+        3,
+        0,
+        0,
+        0,
+        0,
+        0,
+        0,
+        2,
+        0x43,
+        0,
+        f,
+        f,
+        f,
+        f,
+        f,
+    ]
 }
 
 // The number and the record of a refusal, or 0 and 0.
@@ -34,12 +53,22 @@ fn fill_is_no_part_of_a_reply(rt: LibcRuntime) -> Result<(), Fail> {
     for fill in [0x00, 0xaa] {
         let mut tape = opened(&rt, &short_reply(fill))?;
         check(tape.send(&[3]))?;
-        check_eq((tape.count(), tape.byte(1), tape.byte(2)), (2, Some(0), None))?;
+        check_eq(
+            (tape.count(), tape.byte(1), tape.byte(2)),
+            (2, Some(0), None),
+        )?;
     }
     let mut left = opened(&rt, &short_reply(0x00))?;
     let mut right = opened(&rt, &short_reply(0xaa))?;
-    let requests = vec![in rt.alloc(); vec![in rt.alloc(); 4]?, vec![in rt.alloc(); 3]?, vec![in rt.alloc(); 3]?]?;
-    check_eq(side_by_side(&mut left, &mut right, requests.as_slice()), None)
+    let requests = vec![in rt.alloc();
+        vec![in rt.alloc(); 4]?,
+        vec![in rt.alloc(); 3]?,
+        vec![in rt.alloc(); 3]?,
+    ]?;
+    check_eq(
+        side_by_side(&mut left, &mut right, requests.as_slice()),
+        None,
+    )
 }
 
 #[test]

@@ -42,9 +42,18 @@ fn run(rt: &LibcRuntime) -> Result<(), Failure> {
 
 fn help(rt: &LibcRuntime) -> Result<(), Failure> {
     println!(rt, "handheld visit TAPE REQUEST...")?;
-    println!(rt, "  opens the tape in the file TAPE, sends each REQUEST and prints its reply or silence;")?;
-    println!(rt, "  then plays the same visit beside a tape with every fill byte inverted, and compares.")?;
-    println!(rt, "  A REQUEST is bytes in hexadecimal, as 03 or 0902; - is a request of no bytes.")?;
+    println!(
+        rt,
+        "  opens the tape in the file TAPE, sends each REQUEST and prints its reply or silence;"
+    )?;
+    println!(
+        rt,
+        "  then plays the same visit beside a tape with every fill byte inverted, and compares."
+    )?;
+    println!(
+        rt,
+        "  A REQUEST is bytes in hexadecimal, as 03 or 0902; - is a request of no bytes."
+    )?;
     println!(rt, "handheld --help")?;
     println!(rt, "  prints these lines.")?;
     Ok(())
@@ -63,12 +72,21 @@ fn visit(rt: &LibcRuntime, words: &[String]) -> Result<(), Failure> {
     println!(rt, "tape {path}: {entries} entries")?;
     let replies = play(rt, &mut tape, requests.as_slice())?;
     match compare_fills(rt.alloc(), bytes.as_slice(), requests.as_slice())? {
-        None => println!(rt, "beside the same tape with every fill byte inverted: nothing differs")?,
-        Some(k) => println!(rt, "beside the same tape with every fill byte inverted: request {k} differs")?,
+        None => println!(
+            rt,
+            "beside the same tape with every fill byte inverted: nothing differs"
+        )?,
+        Some(k) => println!(
+            rt,
+            "beside the same tape with every fill byte inverted: request #{k} differs"
+        )?,
     }
     let sent = requests.len();
     let silent = sent.saturating_sub(replies);
-    println!(rt, "done: tape opened, {sent} requests sent, {replies} replies, {silent} silent, fill compared")?;
+    println!(
+        rt,
+        "done: tape opened, {sent} requests sent, {replies} replies, {silent} silent, fill compared"
+    )?;
     Ok(())
 }
 

@@ -89,17 +89,21 @@ alike-is l l′ r r′ p p′ s s′ a b c d h = record {
 differs-later : (k : ℕ) (a b : Answer) (xs ys : List Answer) (o : Option ℕ) → a ≡ b → Differs (k + 1) xs ys o → Differs k (a ∷ xs) (b ∷ ys) o
 differs-later k a b xs ys None e d = λ t. e t ∷ d t
 differs-later k a b xs ys (Some j) e d =
-    let m : j - k ≡ suc (j - (k + 1)) = omega (arith, d .0) in
-    (omega (arith, d .0), omega (arith, d .1),
-    subst (λ n. take n (a ∷ xs) ≡ take n (b ∷ ys)) (sym m) (λ t. e t ∷ d .2 t),
-    subst (λ n. getD (a ∷ xs) n silence ≡ getD (b ∷ ys) n silence → ⊥) (sym m) (d .3))
+    let m : j - k ≡ suc (j - (k + 1)) = omega (arith, d .0) in (
+      omega (arith, d .0),
+      omega (arith, d .1),
+      subst (λ n. take n (a ∷ xs) ≡ take n (b ∷ ys)) (sym m) (λ t. e t ∷ d .2 t),
+      subst (λ n. getD (a ∷ xs) n silence ≡ getD (b ∷ ys) n silence → ⊥) (sym m) (d .3),
+    )
 
 differs-here : (k : ℕ) (a b : Answer) (xs ys : List Answer) → (a ≡ b → ⊥) → Differs k (a ∷ xs) (b ∷ ys) (Some k)
 differs-here k a b xs ys ne =
-    let m : k - k ≡ 0 = omega arith in
-    (omega arith, omega arith,
-    subst (λ n. take n (a ∷ xs) ≡ take n (b ∷ ys)) (sym m) refl,
-    subst (λ n. getD (a ∷ xs) n silence ≡ getD (b ∷ ys) n silence → ⊥) (sym m) ne)
+    let m : k - k ≡ 0 = omega arith in (
+      omega arith,
+      omega arith,
+      subst (λ n. take n (a ∷ xs) ≡ take n (b ∷ ys)) (sym m) refl,
+      subst (λ n. getD (a ∷ xs) n silence ≡ getD (b ∷ ys) n silence → ⊥) (sym m) ne,
+    )
 
 differs-by : (k : ℕ) (a b : Answer) (xs ys : List Answer) (o : Option ℕ) (same : Bool) → sameAnswer a b ≡ same → Differs (k + 1) xs ys o → Differs k (a ∷ xs) (b ∷ ys) (orElse (unless same k) o)
 differs-by k a b xs ys o true e d = differs-later k a b xs ys o (same-true a b e) d

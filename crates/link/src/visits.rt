@@ -68,19 +68,17 @@ fn or_at(first: Option<usize>, same: bool, k: usize) -> Option<usize>
 {
     match first {
         Some(j) => Some(j),
-        None => {
-            if same {
-                None
-            } else {
-                Some(k)
-            }
-        }
+        None => { if same { None } else { Some(k) } }
     }
 }
 
 // Sends each request to both links, whatever their makes, and compares answers, counts and bytes after each. Tells the first
 // request that differs, counted from 1. Links that are alike before never differ, and are alike after.
-pub fn side_by_side<X: Link, Y: Link>(left: &mut X, right: &mut Y, requests: &[Vec<u8>]) -> Option<usize>
+pub fn side_by_side<X: Link, Y: Link>(
+    left: &mut X,
+    right: &mut Y,
+    requests: &[Vec<u8>],
+) -> Option<usize>
     ensures first { λ r. ⌜ r ≡ firstDifference 1 (X·Link .car (now (left .entry))) (Y·Link .car (now (right .entry))) (map vec-items (now (requests .entry))) ⌝ }
     ensures differs { λ r. ⌜ Differs 1 (answers (X·Link .car (now (left .entry))) (map vec-items (now (requests .entry)))) (answers (Y·Link .car (now (right .entry))) (map vec-items (now (requests .entry)))) r ⌝ }
     ensures left_next { λ _. ⌜ X·Link .car (now (left .exit)) ≡ afterAll (X·Link .car (now (left .entry))) (map vec-items (now (requests .entry))) ⌝ }

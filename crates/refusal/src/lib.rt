@@ -4,5 +4,5 @@ pub mod faults;
 pub mod layers;
 pub mod reasons;
 pub mod refusals;
-pub mod words;
 pub mod shows;
+pub mod words;

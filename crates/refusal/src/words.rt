@@ -15,7 +15,8 @@ fn card_words(e: CardError) -> &'static str
         CardError::Size => "the card has no record, more than 2,000, or a part of one",
         CardError::Mark => "the mark is unknown",
         CardError::Padding => "a byte that should be 0 is not",
-        CardError::Reference => "a field names no record, too early a record or one of the wrong mark",
+        CardError::Reference =>
+            "a field names no record, too early a record or one of the wrong mark",
         CardError::Owner => "the record is not named exactly once",
         CardError::Range => "a number is out of its range, or a name is no identifier",
     }
@@ -31,7 +32,8 @@ fn name_words(e: NameError) -> &'static str
         NameError::Circular => "the type is declared by way of itself",
         NameError::LocalFunction => "a function is declared inside a let",
         NameError::NoBody => "a function without a body is none of the five outside functions",
-        NameError::NoMain => "there is no main to run: a function with a body, no parameter and result int",
+        NameError::NoMain =>
+            "there is no main to run: a function with a body, no parameter and result int",
     }
 }
 
@@ -40,10 +42,12 @@ fn type_words(e: TypeError) -> &'static str
 {
     match e {
         TypeError::Rule => "the types do not fit",
-        TypeError::NotLvalue => "only a variable, an element, a component or what a pointer leads to can stand here",
+        TypeError::NotLvalue =>
+            "only a variable, an element, a component or what a pointer leads to can stand here",
         TypeError::NotScalar => "a whole array, a whole record or void cannot be a value",
         TypeError::TooLarge => "more than 1,024 cells are needed",
-        TypeError::Arguments => "the call has another number of arguments, or the function more than four parameters",
+        TypeError::Arguments =>
+            "the call has another number of arguments, or the function more than four parameters",
     }
 }
 

@@ -33,10 +33,10 @@ module _ (e f : List ℕ) (long : length e ≡ length f) (a m n : ℕ) (same : (
   parts-agree =
       let le : length (take n (take m (drop a e))) ≡ length (take n (take m (drop a f))) = simp (length-take, length-drop) (omega arith) in
       ext-getD 0 _ _ le (λ j h.
-        let s : j < length (take n (take m (drop a e))) = h in
-        let p : j < n = omega (arith, length-take n (take m (drop a e))) in
-        let q : j < m = omega (arith, length-take n (take m (drop a e)), length-take m (drop a e)) in
-        byte-of e j p q ∙ same j p q ∙ sym (byte-of f j p q))
+      let s : j < length (take n (take m (drop a e))) = h in
+      let p : j < n = omega (arith, length-take n (take m (drop a e))) in
+      let q : j < m = omega (arith, length-take n (take m (drop a e)), length-take m (drop a e)) in
+      byte-of e j p q ∙ same j p q ∙ sym (byte-of f j p q))
 
 -- two entries that differ only in fill are judged alike, and say the same
 module _ (e f : List ℕ) (le : length e ≡ 18) (lf : length f ≡ 18) (same : (i : ℕ) → i < 18 → i < 11 + replyCount e → getD e i 0 ≡ getD f i 0) where
@@ -59,11 +59,11 @@ module _ (e f : List ℕ) (le : length e ≡ 18) (lf : length f ≡ 18) (same : 
       let asked = head 2 (lit< tt) in
       let given = head 10 (lit< tt) in
       λ t.
-        cond (eqb (m0 t) 81 && eqb (m1 t) 65)
-        (cond (zeros (drop (asked t) (requests t)))
-        (cond (sized (asked t) && sized (given t)) None (Some (refused (Link Range) k)))
-        (Some (refused (Link Padding) k)))
-        (Some (refused (Link Mark) k))
+      cond (eqb (m0 t) 81 && eqb (m1 t) 65)
+      (cond (zeros (drop (asked t) (requests t)))
+      (cond (sized (asked t) && sized (given t)) None (Some (refused (Link Range) k)))
+      (Some (refused (Link Padding) k)))
+      (Some (refused (Link Mark) k))
 
   exchange-same : exchangeOf e ≡ exchangeOf f
   exchange-same =

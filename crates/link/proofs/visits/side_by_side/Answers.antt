@@ -15,12 +15,13 @@ loop-i-again g c =
     let rest = map vec-items (drop (i + 1) rs) in
     let sent = c .send-both-same .ensures in
     let q = c .as-slice .result .now in
-    let is = next-request vec-items rs i (c .index-requests-i .result) q (c .loop-i-test .taken) (c .index-requests-i .is) (c .as-slice .ensures .value) in
-    (first-more _ rest q is (i + 1) _ _ _ _ (c .loop-i .first) _ _ (sent .left-next) (sent .right-next) (sent .same) (c .or-at-first .ensures) ∙ c .loop-i .inv .0,
-    after-more _ rest q is _ _ (sent .left-next) ∙ c .loop-i .inv .1,
-    reply-more _ rest q is _ _ (g .X·Link .present (c .loop-i .left)) _ (sent .left-next) (sent .left-shown) ∙ c .loop-i .inv .2,
-    after-more _ rest q is _ _ (sent .right-next) ∙ c .loop-i .inv .3,
-    reply-more _ rest q is _ _ (g .Y·Link .present (c .loop-i .right)) _ (sent .right-next) (sent .right-shown) ∙ c .loop-i .inv .4)
+    let is = next-request vec-items rs i (c .index-requests-i .result) q (c .loop-i-test .taken) (c .index-requests-i .is) (c .as-slice .ensures .value) in (
+      first-more _ rest q is (i + 1) _ _ _ _ (c .loop-i .first) _ _ (sent .left-next) (sent .right-next) (sent .same) (c .or-at-first .ensures) ∙ c .loop-i .inv .0,
+      after-more _ rest q is _ _ (sent .left-next) ∙ c .loop-i .inv .1,
+      reply-more _ rest q is _ _ (g .X·Link .present (c .loop-i .left)) _ (sent .left-next) (sent .left-shown) ∙ c .loop-i .inv .2,
+      after-more _ rest q is _ _ (sent .right-next) ∙ c .loop-i .inv .3,
+      reply-more _ rest q is _ _ (g .Y·Link .present (c .loop-i .right)) _ (sent .right-next) (sent .right-shown) ∙ c .loop-i .inv .4,
+    )
 
 pub returns : need.returns
 returns g c =
