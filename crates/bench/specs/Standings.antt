@@ -7,8 +7,8 @@ use lib.ListN.{length}
 use Rattle.std.specs.declared.result.Result.{Result}
 use Rattle.std.specs.declared.result.Result.the-variants.{Ok, Err}
 use Rattle.refusal.specs.Refusals.{refused}
-use Rattle.refusal.specs.declared.errors.LinkError.the-variants.{Range}
-use Rattle.refusal.specs.declared.reasons.Reason.the-variants.{Link}
+use Rattle.reason.specs.declared.errors.LinkError.the-variants.{Range}
+use Rattle.reason.specs.declared.reasons.Reason.the-variants.{Link}
 use Rattle.refusal.specs.declared.refusals.Refusal.{Refusal}
 
 -- the codes held and the present reply

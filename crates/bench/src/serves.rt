@@ -9,8 +9,8 @@ use crate::services::Service;
 use crate::services::service_of;
 use bytes::Buffer;
 use link::Link;
-use refusal::errors::LinkError;
-use refusal::reasons::Reason;
+use reason::errors::LinkError;
+use reason::reasons::Reason;
 use refusal::refusals::Refusal;
 
 impl BenchUnit {

@@ -1,7 +1,5 @@
-// Examples of the links and of the command line, run as tests.
+// Examples of the links, run as tests.
 #[cfg(test)]
 mod benches;
-#[cfg(test)]
-mod commands;
 #[cfg(test)]
 mod tapes;

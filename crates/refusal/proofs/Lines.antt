@@ -2,10 +2,7 @@
 use mathlib.Core.Path.{_≡_}
 use mathlib.Core.List.{List}
 use Prim.Native.Nat.{ℕ}
-use Rattle.refusal.specs.Texts.{told, line}
-
-pub told-is : (n n′ : ℕ) (w w′ : List ℕ) → n ≡ n′ → w ≡ w′ → told n w ≡ told n′ w′
-told-is n n′ w w′ a b = λ i. told (a i) (b i)
+use Rattle.refusal.specs.Texts.{line}
 
 pub line-is : (n n′ k k′ l l′ : ℕ) (w w′ : List ℕ) → n ≡ n′ → k ≡ k′ → l ≡ l′ → w ≡ w′ → line n k l w ≡ line n′ k′ l′ w′
 line-is n n′ k k′ l l′ w w′ a b c d = λ i. line (a i) (b i) (c i) (d i)

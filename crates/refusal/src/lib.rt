@@ -1,8 +1,4 @@
-// Why the reader says no: refusals and run faults, each with its number, its layer and words.
-pub mod errors;
-pub mod faults;
-pub mod layers;
-pub mod reasons;
+// Refusals and run faults with the record at fault, and what they say to a mechanic or a script writer.
 pub mod refusals;
 pub mod shows;
 pub mod words;

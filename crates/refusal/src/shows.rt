@@ -1,7 +1,9 @@
 ghost use Rattle.std.specs.declared.option.Option.the-variants.{Some};
 ghost use Rattle.refusal.specs.Texts.{refusalText, faultText};
-use crate::faults::RunFault;
+use crate::refusals::FaultAt;
 use crate::refusals::Refusal;
+use crate::words::fault_words;
+use crate::words::reason_words;
 use std::fmt;
 
 // As `2 at record 5, layer 1: the mark is unknown`.
@@ -12,18 +14,20 @@ pub impl fmt::Display for Refusal as RefusalDisplay {
         let number = self.number();
         let record = self.record();
         let layer = self.layer().number();
-        let words = self.reason().words();
+        let words = reason_words(self.reason());
         write!(f, "{number} at record {record}, layer {layer}: {words}")
     }
 }
 
-// As `30: division by 0`; the record is told by the run.
-pub impl fmt::Display for RunFault as RunFaultDisplay {
+// As `30 at record 7, layer 4: division by 0`.
+pub impl fmt::Display for FaultAt as FaultAtDisplay {
     ghost shown = { λ x. Some (faultText x) };
 
     fn fmt<W: fmt::Write>(&self, f: &mut fmt::Formatter<W>) -> fmt::Result {
-        let number = self.number();
-        let words = self.words();
-        write!(f, "{number}: {words}")
+        let number = self.fault().number();
+        let record = self.record();
+        let layer = self.fault().layer().number();
+        let words = fault_words(self.fault());
+        write!(f, "{number} at record {record}, layer {layer}: {words}")
     }
 }

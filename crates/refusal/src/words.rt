@@ -1,12 +1,12 @@
 ghost use mathlib.Core.Path.{_≡_};
 ghost use Rattle.refusal.specs.Words.{cardWords, nameWords, typeWords, linkWords, callWords, faultWords, reasonWords};
-use crate::errors::CallError;
-use crate::errors::CardError;
-use crate::errors::LinkError;
-use crate::errors::NameError;
-use crate::errors::TypeError;
-use crate::faults::RunFault;
-use crate::reasons::Reason;
+use reason::errors::CallError;
+use reason::errors::CardError;
+use reason::errors::LinkError;
+use reason::errors::NameError;
+use reason::errors::TypeError;
+use reason::faults::RunFault;
+use reason::reasons::Reason;
 
 fn card_words(e: CardError) -> &'static str
     ensures { λ r. ⌜ now r ≡ cardWords e ⌝ }
@@ -71,7 +71,8 @@ fn call_words(e: CallError) -> &'static str
     }
 }
 
-fn fault_words(e: RunFault) -> &'static str
+// What ended a run, in plain words.
+pub fn fault_words(e: RunFault) -> &'static str
     ensures { λ r. ⌜ now r ≡ faultWords e ⌝ }
 {
     match e {
@@ -89,26 +90,15 @@ fn fault_words(e: RunFault) -> &'static str
     }
 }
 
-impl Reason {
-    // What is wrong, in plain words.
-    pub fn words(self) -> &'static str
-        ensures { λ r. ⌜ now r ≡ reasonWords self ⌝ }
-    {
-        match self {
-            Reason::Card(e) => card_words(e),
-            Reason::Names(e) => name_words(e),
-            Reason::Types(e) => type_words(e),
-            Reason::Link(e) => link_words(e),
-            Reason::Call(e) => call_words(e),
-        }
-    }
-}
-
-impl RunFault {
-    // What ended the run, in plain words.
-    pub fn words(self) -> &'static str
-        ensures { λ r. ⌜ now r ≡ faultWords self ⌝ }
-    {
-        fault_words(self)
+// What is wrong, in plain words.
+pub fn reason_words(reason: Reason) -> &'static str
+    ensures { λ r. ⌜ now r ≡ reasonWords reason ⌝ }
+{
+    match reason {
+        Reason::Card(e) => card_words(e),
+        Reason::Names(e) => name_words(e),
+        Reason::Types(e) => type_words(e),
+        Reason::Link(e) => link_words(e),
+        Reason::Call(e) => call_words(e),
     }
 }

@@ -14,10 +14,10 @@ use Rattle.std.proofs.shelf.Lists.{getD-take, getD-drop, getD-past, length-take
 use Rattle.std.proofs.shelf.Tests.{and-parts, and-cases, eq-eqb, eqb-true, eqb-false, leb-true, le-leb, both-ways}
 use Rattle.bytes.specs.Records.{recordsOf, recordAt}
 use Rattle.bytes.proofs.Cuts.{length-records, record-at}
-use Rattle.refusal.specs.Numbers.{reasonNumber}
+use Rattle.reason.specs.Numbers.{reasonNumber}
 use Rattle.refusal.specs.Refusals.{refused}
-use Rattle.refusal.specs.declared.errors.LinkError.the-variants.{Size, Mark, Padding, Range}
-use Rattle.refusal.specs.declared.reasons.Reason.the-variants.{Link}
+use Rattle.reason.specs.declared.errors.LinkError.the-variants.{Size, Mark, Padding, Range}
+use Rattle.reason.specs.declared.reasons.Reason.the-variants.{Link}
 use Rattle.refusal.specs.declared.refusals.Refusal.{Refusal}
 use Rattle.tape.specs.Entries.{marked, padded, sized, zeros, requestLength, replyCount}
 use Rattle.tape.specs.Judgement.{judged, wrong, orElse, refusalOf, verdict, counted}

@@ -16,8 +16,8 @@ use Rattle.bytes.proofs.Cuts.{length-records, record-at, length-record}
 use Rattle.link.specs.Cars.{silence, reply}
 use Rattle.link.specs.Visits.{answers}
 use Rattle.refusal.specs.Refusals.{refused}
-use Rattle.refusal.specs.declared.errors.LinkError.the-variants.{Size, Mark, Padding, Range}
-use Rattle.refusal.specs.declared.reasons.Reason.the-variants.{Link}
+use Rattle.reason.specs.declared.errors.LinkError.the-variants.{Size, Mark, Padding, Range}
+use Rattle.reason.specs.declared.reasons.Reason.the-variants.{Link}
 use Rattle.refusal.specs.declared.refusals.Refusal.{Refusal}
 use Rattle.tape.specs.Entries.{Exchange, exchangeOf, zeros, sized, requestLength, replyCount}
 use Rattle.tape.specs.Judgement.{judged, wrong, orElse, refusalOf, verdict, counted}

@@ -14,8 +14,8 @@ use Rattle.std.proofs.shelf.Tests.{cond-true, and-from, and-parts, eq-eqb, le-l
 use Rattle.bytes.specs.Records.{records, recordsOf}
 use Rattle.bytes.proofs.Cuts.{length-records}
 use Rattle.refusal.specs.Refusals.{refused}
-use Rattle.refusal.specs.declared.errors.LinkError.the-variants.{Size, Mark, Padding, Range}
-use Rattle.refusal.specs.declared.reasons.Reason.the-variants.{Link}
+use Rattle.reason.specs.declared.errors.LinkError.the-variants.{Size, Mark, Padding, Range}
+use Rattle.reason.specs.declared.reasons.Reason.the-variants.{Link}
 use Rattle.refusal.specs.declared.refusals.Refusal.{Refusal}
 use Rattle.tape.specs.Entries.{marked, padded, sized, requestLength, replyCount, Fit, Exchange, exchangeOf}
 use Rattle.tape.specs.Judgement.{judged, wrong, orElse, passed, counted, refusalOf}

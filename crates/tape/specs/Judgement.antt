@@ -9,9 +9,9 @@ use Rattle.std.specs.declared.option.Option.the-variants.{Some, None}
 use Rattle.std.specs.declared.result.Result.{Result}
 use Rattle.std.specs.declared.result.Result.the-variants.{Ok, Err}
 use Rattle.refusal.specs.Refusals.{refused}
-use Rattle.refusal.specs.declared.errors.LinkError.{LinkError}
-use Rattle.refusal.specs.declared.errors.LinkError.the-variants.{Size, Mark, Padding, Range}
-use Rattle.refusal.specs.declared.reasons.Reason.the-variants.{Link}
+use Rattle.reason.specs.declared.errors.LinkError.{LinkError}
+use Rattle.reason.specs.declared.errors.LinkError.the-variants.{Size, Mark, Padding, Range}
+use Rattle.reason.specs.declared.reasons.Reason.the-variants.{Link}
 use Rattle.refusal.specs.declared.refusals.Refusal.{Refusal}
 use Rattle.bytes.specs.Records.{recordsOf}
 use Rattle.tape.specs.Entries.{marked, padded, sized, requestLength, replyCount}

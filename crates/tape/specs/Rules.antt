@@ -7,7 +7,7 @@ use lib.ListN.{length, getD}
 use Rattle.std.specs.declared.result.Result.{Result}
 use Rattle.std.specs.declared.result.Result.the-variants.{Ok, Err}
 use Rattle.bytes.specs.Records.{recordAt}
-use Rattle.refusal.specs.Numbers.{reasonNumber}
+use Rattle.reason.specs.Numbers.{reasonNumber}
 use Rattle.refusal.specs.declared.refusals.Refusal.{Refusal}
 use Rattle.tape.specs.Entries.{requestLength, replyCount}
 

@@ -1,11 +1,11 @@
 ghost use mathlib.Core.Path.{_≡_};
 ghost use lib.ListN.{length, drop};
 ghost use Rattle.refusal.specs.Refusals.{refused};
-ghost use Rattle.refusal.specs.declared.reasons.Reason.the-variants.{Link};
+ghost use Rattle.reason.specs.declared.reasons.Reason.the-variants.{Link};
 ghost use Rattle.tape.specs.Entries.{zeros, sized};
 ghost use Rattle.tape.specs.Judgement.{wrong, refusalOf, verdict, passed};
-use refusal::errors::LinkError;
-use refusal::reasons::Reason;
+use reason::errors::LinkError;
+use reason::reasons::Reason;
 use refusal::refusals::Refusal;
 
 fn refuse(error: LinkError, k: usize) -> Refusal

@@ -9,12 +9,13 @@ use command::words::CommandDebug;
 use command::words::CommandPartialEq;
 use command::words::command_of;
 use hex::encode;
-use refusal::errors::LinkError;
-use refusal::faults::RunFault;
-use refusal::reasons::Reason;
+use reason::errors::LinkError;
+use reason::faults::RunFault;
+use reason::reasons::Reason;
+use refusal::refusals::FaultAt;
 use refusal::refusals::Refusal;
+use refusal::shows::FaultAtDisplay;
 use refusal::shows::RefusalDisplay;
-use refusal::shows::RunFaultDisplay;
 use std::test::*;
 
 #[test]
@@ -61,10 +62,9 @@ fn lines_for_the_mechanic(rt: LibcRuntime) -> Result<(), Fail> {
     let failure = Failure::from(refusal);
     let whole = format!(rt.alloc(), "{failure}")?;
     check(whole.as_str() == "the tape is refused: 2 at record 5, layer 5: the mark is not QA")?;
-    let fault = RunFault::NoSuchByte;
+    let fault = FaultAt::new(RunFault::NoSuchByte, 12);
     let ended = format!(rt.alloc(), "{fault}")?;
-    check(ended.as_str() == "38: the reply has no such byte")?;
-    check_eq(fault.layer().number(), 4)
+    check(ended.as_str() == "38 at record 12, layer 4: the reply has no such byte")
 }
 
 #[test]

@@ -1,5 +1,5 @@
 // What is wrong with a card's format.
-#[derive(Clone, Copy, PartialEq, Eq, Debug)]
+#[derive(Clone, Copy)]
 pub enum CardError {
     // no record, too many, or a part of one
     Size = 1,
@@ -16,7 +16,7 @@ pub enum CardError {
 }
 
 // What is wrong with the names of a card.
-#[derive(Clone, Copy, PartialEq, Eq, Debug)]
+#[derive(Clone, Copy)]
 pub enum NameError {
     // a second declaration in a scope, or a second component in a record
     Redeclared = 10,
@@ -35,7 +35,7 @@ pub enum NameError {
 }
 
 // What is wrong with the types of a card.
-#[derive(Clone, Copy, PartialEq, Eq, Debug)]
+#[derive(Clone, Copy)]
 pub enum TypeError {
     // a type rule does not hold
     Rule = 20,
@@ -50,7 +50,7 @@ pub enum TypeError {
 }
 
 // What is wrong with a tape or with the codes of a bench unit.
-#[derive(Clone, Copy, PartialEq, Eq, Debug)]
+#[derive(Clone, Copy)]
 pub enum LinkError {
     // too many entries, or a part of one
     Size = 1,
@@ -63,7 +63,7 @@ pub enum LinkError {
 }
 
 // What is wrong with a call of the reader.
-#[derive(Clone, Copy, PartialEq, Eq, Debug)]
+#[derive(Clone, Copy)]
 pub enum CallError {
     // there is no run to go on with
     NoRun = 41,

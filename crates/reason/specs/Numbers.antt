@@ -1,19 +1,19 @@
 -- The number of each refusal and of each run fault. Assumes nothing.
 use Prim.Native.Nat.{ℕ}
-use Rattle.refusal.specs.declared.errors.CardError.{CardError}
-use Rattle.refusal.specs.declared.errors.CardError.the-variants as card
-use Rattle.refusal.specs.declared.errors.NameError.{NameError}
-use Rattle.refusal.specs.declared.errors.NameError.the-variants.{Redeclared, Undeclared, Mistaken, Circular, LocalFunction, NoBody, NoMain}
-use Rattle.refusal.specs.declared.errors.TypeError.{TypeError}
-use Rattle.refusal.specs.declared.errors.TypeError.the-variants.{Rule, NotLvalue, NotScalar, TooLarge, Arguments}
-use Rattle.refusal.specs.declared.errors.LinkError.{LinkError}
-use Rattle.refusal.specs.declared.errors.LinkError.the-variants as link
-use Rattle.refusal.specs.declared.errors.CallError.{CallError}
-use Rattle.refusal.specs.declared.errors.CallError.the-variants.{NoRun, Portion}
-use Rattle.refusal.specs.declared.reasons.Reason.{Reason}
-use Rattle.refusal.specs.declared.reasons.Reason.the-variants.{Card, Names, Types, Link, Call}
-use Rattle.refusal.specs.declared.faults.RunFault.{RunFault}
-use Rattle.refusal.specs.declared.faults.RunFault.the-variants.{ZeroDivisor, IndexRange, NoCell, Unwritten, HeapFull, StackFull, NotABlock, RequestByte, NoSuchByte, FindingsFull, FuelLimit}
+use Rattle.reason.specs.declared.errors.CardError.{CardError}
+use Rattle.reason.specs.declared.errors.CardError.the-variants as card
+use Rattle.reason.specs.declared.errors.NameError.{NameError}
+use Rattle.reason.specs.declared.errors.NameError.the-variants.{Redeclared, Undeclared, Mistaken, Circular, LocalFunction, NoBody, NoMain}
+use Rattle.reason.specs.declared.errors.TypeError.{TypeError}
+use Rattle.reason.specs.declared.errors.TypeError.the-variants.{Rule, NotLvalue, NotScalar, TooLarge, Arguments}
+use Rattle.reason.specs.declared.errors.LinkError.{LinkError}
+use Rattle.reason.specs.declared.errors.LinkError.the-variants as link
+use Rattle.reason.specs.declared.errors.CallError.{CallError}
+use Rattle.reason.specs.declared.errors.CallError.the-variants.{NoRun, Portion}
+use Rattle.reason.specs.declared.reasons.Reason.{Reason}
+use Rattle.reason.specs.declared.reasons.Reason.the-variants.{Card, Names, Types, Link, Call}
+use Rattle.reason.specs.declared.faults.RunFault.{RunFault}
+use Rattle.reason.specs.declared.faults.RunFault.the-variants.{ZeroDivisor, IndexRange, NoCell, Unwritten, HeapFull, StackFull, NotABlock, RequestByte, NoSuchByte, FindingsFull, FuelLimit}
 
 abbrev pub cardNumber : CardError → ℕ
 cardNumber card.Size = 1

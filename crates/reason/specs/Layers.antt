@@ -1,10 +1,10 @@
 -- The layers and their numbers. Assumes nothing.
 use Prim.Native.Nat.{ℕ}
-use Rattle.refusal.specs.declared.layers.Layer.{Layer}
-use Rattle.refusal.specs.declared.layers.Layer.the-variants.{Card, Names, Types, Run, Link, Call}
-use Rattle.refusal.specs.declared.faults.RunFault.{RunFault}
-use Rattle.refusal.specs.declared.reasons.Reason.{Reason}
-use Rattle.refusal.specs.declared.reasons.Reason.the-variants as why
+use Rattle.reason.specs.declared.layers.Layer.{Layer}
+use Rattle.reason.specs.declared.layers.Layer.the-variants.{Card, Names, Types, Run, Link, Call}
+use Rattle.reason.specs.declared.faults.RunFault.{RunFault}
+use Rattle.reason.specs.declared.reasons.Reason.{Reason}
+use Rattle.reason.specs.declared.reasons.Reason.the-variants as why
 
 abbrev pub numeral : Layer → ℕ
 numeral Card = 1

@@ -1,8 +1,8 @@
 ghost use mathlib.Core.Path.{_≡_};
-ghost use Rattle.refusal.specs.Layers.{numeral};
+ghost use Rattle.reason.specs.Layers.{numeral};
 
 // The part of the reader that says no, in the order in which a script meets them.
-#[derive(Clone, Copy, PartialEq, Eq, Debug)]
+#[derive(Clone, Copy)]
 pub enum Layer {
     // the card's format
     Card = 1,

@@ -1,25 +1,15 @@
 ghost use mathlib.Core.Path.{_≡_};
-ghost use Rattle.refusal.specs.Numbers.{reasonNumber};
-ghost use Rattle.refusal.specs.Layers.{reasonLayer};
+ghost use Rattle.reason.specs.Numbers.{reasonNumber};
+ghost use Rattle.reason.specs.Layers.{reasonLayer};
 use crate::errors::CallError;
-use crate::errors::CallErrorDebug;
-use crate::errors::CallErrorPartialEq;
 use crate::errors::CardError;
-use crate::errors::CardErrorDebug;
-use crate::errors::CardErrorPartialEq;
 use crate::errors::LinkError;
-use crate::errors::LinkErrorDebug;
-use crate::errors::LinkErrorPartialEq;
 use crate::errors::NameError;
-use crate::errors::NameErrorDebug;
-use crate::errors::NameErrorPartialEq;
 use crate::errors::TypeError;
-use crate::errors::TypeErrorDebug;
-use crate::errors::TypeErrorPartialEq;
 use crate::layers::Layer;
 
 // Why something is refused, by the layer that refuses it.
-#[derive(Clone, Copy, PartialEq, Eq, Debug)]
+#[derive(Clone, Copy)]
 pub enum Reason {
     Card(CardError),
     Names(NameError),

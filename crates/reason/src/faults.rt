@@ -1,6 +1,6 @@
 ghost use mathlib.Core.Path.{_≡_};
-ghost use Rattle.refusal.specs.Numbers.{faultNumber};
-ghost use Rattle.refusal.specs.Layers.{faultLayer};
+ghost use Rattle.reason.specs.Numbers.{faultNumber};
+ghost use Rattle.reason.specs.Layers.{faultLayer};
 use crate::layers::Layer;
 
 // How a run can end other than by a value. It is no refusal: what was found so far stays.

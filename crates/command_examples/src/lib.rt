@@ -1,0 +1,3 @@
+// Examples of the command line and of what is printed, run as tests.
+#[cfg(test)]
+mod commands;

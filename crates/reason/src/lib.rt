@@ -1,0 +1,4 @@
+pub mod errors;
+pub mod faults;
+pub mod layers;
+pub mod reasons;
