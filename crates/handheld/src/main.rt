@@ -40,22 +40,15 @@ fn run(rt: &LibcRuntime) -> Result<(), Failure> {
     }
 }
 
+const HELP: &str = "handheld visit TAPE REQUEST...
+  opens the tape in the file TAPE, sends each REQUEST and prints its reply or silence;
+  then plays the same visit beside a tape with every fill byte inverted, and compares.
+  A REQUEST is bytes in hexadecimal, as 03 or 0902; - is a request of no bytes.
+handheld --help
+  prints these lines.";
+
 fn help(rt: &LibcRuntime) -> Result<(), Failure> {
-    println!(rt, "handheld visit TAPE REQUEST...")?;
-    println!(
-        rt,
-        "  opens the tape in the file TAPE, sends each REQUEST and prints its reply or silence;"
-    )?;
-    println!(
-        rt,
-        "  then plays the same visit beside a tape with every fill byte inverted, and compares."
-    )?;
-    println!(
-        rt,
-        "  A REQUEST is bytes in hexadecimal, as 03 or 0902; - is a request of no bytes."
-    )?;
-    println!(rt, "handheld --help")?;
-    println!(rt, "  prints these lines.")?;
+    println!(rt, "{HELP}")?;
     Ok(())
 }
 

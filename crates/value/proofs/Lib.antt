@@ -1,0 +1,3 @@
+pub mod Divides
+pub mod Ranges
+pub mod Laws

@@ -1,0 +1,4 @@
+pub mod Values
+pub mod Binary
+pub mod Unary
+pub mod Laws

@@ -1,0 +1,8 @@
+// What a cell can hold.
+#[derive(Clone, Copy, PartialEq, Eq, Debug)]
+pub enum Kind {
+    Char,
+    Int,
+    Bool,
+    Pointer,
+}
