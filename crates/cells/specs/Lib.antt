@@ -1,0 +1,9 @@
+pub mod Cells
+pub mod Layouts
+pub mod Rows
+pub mod Fits
+pub mod Memory
+pub mod Views
+pub mod Findings
+pub mod Found
+pub mod Messages
