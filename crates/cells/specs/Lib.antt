@@ -7,3 +7,4 @@ pub mod Views
 pub mod Findings
 pub mod Found
 pub mod Messages
+pub mod Laws

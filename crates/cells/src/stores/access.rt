@@ -2,6 +2,7 @@ ghost use mathlib.Core.Path.{_≡_};
 ghost use lib.ListN.{getD};
 ghost use Rattle.std.specs.Vec.{made};
 ghost use Rattle.cells.specs.Cells.{at, cellAt, readCell};
+ghost use Rattle.cells.specs.Laws.{KeepsKinds};
 ghost use Rattle.cells.specs.Memory.{empty, written};
 ghost use Rattle.cells.specs.Views.{memory};
 use super::Store;
@@ -52,8 +53,7 @@ impl Store {
         self.cell(address).read(kind)
     }
 
-    // Writes a value to the cell at an address: fault 32 where it is absent, dead or of another kind.
-    pub fn write(&mut self, address: i64, value: Value) -> Result<(), Stop>
+    fn set_cell(&mut self, address: i64, value: Value) -> Result<(), Stop>
         ensures result { λ r. ⌜ r ≡ written address value (memory (now (self .entry))) .0 ⌝ }
         ensures after { λ _. ⌜ memory (now (self .exit)) ≡ written address value (memory (now (self .entry))) .1 ⌝ }
     {
@@ -62,5 +62,14 @@ impl Store {
             put(&mut self.cells, i, cell);
         }
         Ok(())
+    }
+
+    // Writes a value to the cell at an address: fault 32 where it is absent, dead or of another kind.
+    pub fn write(&mut self, address: i64, value: Value) -> Result<(), Stop>
+        ensures result { λ r. ⌜ r ≡ written address value (memory (now (self .entry))) .0 ⌝ }
+        ensures after { λ _. ⌜ memory (now (self .exit)) ≡ written address value (memory (now (self .entry))) .1 ⌝ }
+        ensures kinds { λ _. ⌜ KeepsKinds (memory (now (self .entry))) (memory (now (self .exit))) ⌝ }
+    {
+        self.set_cell(address, value)
     }
 }

@@ -1,4 +1,5 @@
 ghost use mathlib.Core.Path.{_≡_};
+ghost use Rattle.cells.specs.Laws.{KeepsFirst, LeavesHeap};
 ghost use Rattle.cells.specs.Memory.{givenUp, laid, laidValue};
 ghost use Rattle.cells.specs.Views.{memory};
 use super::Store;
@@ -19,8 +20,7 @@ impl Store {
         self.used
     }
 
-    // A variable comes to life above what is in use, unwritten; its first cell is told. Fault 35 where it does not fit.
-    pub fn lay<L: Layout>(&mut self, layout: &L) -> Result<i64, Stop>
+    fn lay_row<L: Layout>(&mut self, layout: &L) -> Result<i64, Stop>
         ensures result { λ r. ⌜ r ≡ laid (kinds (now (layout .entry))) (memory (now (self .entry))) .0 ⌝ }
         ensures after { λ _. ⌜ memory (now (self .exit)) ≡ laid (kinds (now (layout .entry))) (memory (now (self .entry))) .1 ⌝ }
     {
@@ -34,8 +34,7 @@ impl Store {
         Ok((used + 1) as i64)
     }
 
-    // A parameter comes to life above what is in use, holding its argument; its cell is told. Fault 35 where it does not fit.
-    pub fn lay_value(&mut self, value: Value) -> Result<i64, Stop>
+    fn lay_argument(&mut self, value: Value) -> Result<i64, Stop>
         ensures result { λ r. ⌜ r ≡ laidValue value (memory (now (self .entry))) .0 ⌝ }
         ensures after { λ _. ⌜ memory (now (self .exit)) ≡ laidValue value (memory (now (self .entry))) .1 ⌝ }
     {
@@ -51,8 +50,7 @@ impl Store {
         Ok((used + 1) as i64)
     }
 
-    // Everything above a mark dies.
-    pub fn give_up(&mut self, mark: usize)
+    fn drop_above(&mut self, mark: usize)
         ensures { λ _. ⌜ memory (now (self .exit)) ≡ givenUp mark (memory (now (self .entry))) ⌝ }
     {
         let used = self.used;
@@ -60,5 +58,34 @@ impl Store {
             kill(&mut self.cells, mark, used - mark);
             self.used = mark;
         }
+    }
+
+    // A variable comes to life above what is in use, unwritten; its first cell is told. Fault 35 where it does not fit.
+    pub fn lay<L: Layout>(&mut self, layout: &L) -> Result<i64, Stop>
+        ensures result { λ r. ⌜ r ≡ laid (kinds (now (layout .entry))) (memory (now (self .entry))) .0 ⌝ }
+        ensures after { λ _. ⌜ memory (now (self .exit)) ≡ laid (kinds (now (layout .entry))) (memory (now (self .entry))) .1 ⌝ }
+        ensures heap { λ _. ⌜ LeavesHeap (memory (now (self .entry))) (memory (now (self .exit))) ⌝ }
+        ensures first { λ _. ⌜ KeepsFirst (memory (now (self .entry)) .used) (memory (now (self .entry))) (memory (now (self .exit))) ⌝ }
+    {
+        self.lay_row(layout)
+    }
+
+    // A parameter comes to life above what is in use, holding its argument; its cell is told. Fault 35 where it does not fit.
+    pub fn lay_value(&mut self, value: Value) -> Result<i64, Stop>
+        ensures result { λ r. ⌜ r ≡ laidValue value (memory (now (self .entry))) .0 ⌝ }
+        ensures after { λ _. ⌜ memory (now (self .exit)) ≡ laidValue value (memory (now (self .entry))) .1 ⌝ }
+        ensures heap { λ _. ⌜ LeavesHeap (memory (now (self .entry))) (memory (now (self .exit))) ⌝ }
+        ensures first { λ _. ⌜ KeepsFirst (memory (now (self .entry)) .used) (memory (now (self .entry))) (memory (now (self .exit))) ⌝ }
+    {
+        self.lay_argument(value)
+    }
+
+    // Everything above a mark dies.
+    pub fn give_up(&mut self, mark: usize)
+        ensures after { λ _. ⌜ memory (now (self .exit)) ≡ givenUp mark (memory (now (self .entry))) ⌝ }
+        ensures heap { λ _. ⌜ LeavesHeap (memory (now (self .entry))) (memory (now (self .exit))) ⌝ }
+        ensures first { λ _. ⌜ KeepsFirst mark (memory (now (self .entry))) (memory (now (self .exit))) ⌝ }
+    {
+        self.drop_above(mark)
     }
 }
