@@ -10,11 +10,10 @@ use value::kinds::Kind;
 pub trait Layout {
     ghost kinds: { Self → List Kind };
 
-    // A type has at least one cell.
-    law some: { (x : Self) → 1 ≤ length (kinds x) };
-
+    // How many cells there are: at least one.
     fn size(&self) -> usize
-        ensures { λ r. ⌜ r ≡ length (kinds (now (self .entry))) ⌝ };
+        ensures value { λ r. ⌜ r ≡ length (kinds (now (self .entry))) ⌝ }
+        ensures some { λ r. ⌜ 1 ≤ r ⌝ };
 
     // The kind of cell i, counted from 0.
     fn kind(&self, i: usize) -> Option<Kind>

@@ -1,4 +1,5 @@
 ghost use mathlib.Core.Path.{_≡_};
+ghost use Prim.Native.Nat.{_≤_};
 ghost use lib.ListN.{drop, length};
 ghost use Rattle.cells.specs.Laws.{Finds, LeavesVariables, Restores};
 ghost use Rattle.cells.specs.Memory.{deleted, newed};
@@ -16,6 +17,7 @@ impl Store {
     fn take_block<L: Layout>(&mut self, layout: &L) -> Result<i64, Stop>
         ensures result { λ r. ⌜ r ≡ newed (kinds (now (layout .entry))) (memory (now (self .entry))) .0 ⌝ }
         ensures after { λ _. ⌜ memory (now (self .exit)) ≡ newed (kinds (now (layout .entry))) (memory (now (self .entry))) .1 ⌝ }
+        ensures some { λ _. ⌜ 1 ≤ length (kinds (now (layout .entry))) ⌝ }
     {
         let size = layout.size();
         if size > 1024 {
