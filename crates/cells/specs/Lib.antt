@@ -6,5 +6,5 @@ pub mod Memory
 pub mod Views
 pub mod Findings
 pub mod Found
-pub mod Messages
+pub mod Requests
 pub mod Laws

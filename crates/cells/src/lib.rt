@@ -3,6 +3,6 @@ pub mod cell;
 pub mod findings;
 mod fits;
 pub mod layouts;
-pub mod messages;
+pub mod requests;
 mod rows;
 pub mod stores;

@@ -52,7 +52,12 @@ fn value_of(kind: Option<&str>, n: i64) -> Value {
     }
 }
 
-fn answer(rt: &LibcRuntime, store: &mut Store, shapes: &mut Shapes, line: &str) -> Result<(), AnyError> {
+fn answer(
+    rt: &LibcRuntime,
+    store: &mut Store,
+    shapes: &mut Shapes,
+    line: &str,
+) -> Result<(), AnyError> {
     let mut words = line.split(' ');
     match words.next() {
         Some("eval") => {
@@ -78,9 +83,16 @@ fn answer(rt: &LibcRuntime, store: &mut Store, shapes: &mut Shapes, line: &str) 
 }
 
 // A block of that many ints.
-fn block(rt: &LibcRuntime, store: &mut Store, shapes: &mut Shapes, size: i64) -> Result<(), AnyError> {
+fn block(
+    rt: &LibcRuntime,
+    store: &mut Store,
+    shapes: &mut Shapes,
+    size: i64,
+) -> Result<(), AnyError> {
     let count = size.rem_euclid(2048) as usize;
-    let place = shapes.add(Shape::Array { count, element: 0 }).unwrap_or(2000);
+    let place = shapes
+        .add(Shape::Array { count, element: 0 })
+        .unwrap_or(2000);
     let Some(layout) = shapes.laid(place) else {
         return Ok(println!(rt, "no such shape")?);
     };

@@ -14,7 +14,7 @@ use Rattle.std.proofs.shelf.Tests.{and-parts, and-right, cond-false, leb-true, 
 use Rattle.value.specs.declared.kinds.Kind.{Kind}
 use Rattle.value.specs.declared.kinds.Kind.the-variants.{Char}
 use Rattle.cells.specs.Layouts.{kindAt}
-use Rattle.shapes.specs.Forms.{kindsOf, measured, refersBelow, repeated, rowsFrom, rowsOf, sizeFits}
+use Rattle.shapes.specs.Forms.{Sizes, kindsOf, measured, refersBelow, repeated, rowsFrom, rowsOf, sizeFits}
 use Rattle.shapes.specs.declared.forms.Shape.{Shape}
 use Rattle.shapes.specs.declared.forms.Shape.the-variants.{Scalar, Array, Sequence}
 
@@ -180,3 +180,10 @@ measured-some m n e = by-test m n (sizeFits n) refl e
     by-test : (m n : ℕ) (b : Bool) → sizeFits n ≡ b → Some m ≡ cond b (Some n) None → (m ≡ n) × (m ≤ 1024)
     by-test m n true t e = let same : m ≡ n = cc in (same, omega (arith, same, leb-true n 1024 (and-parts (leb 1 n) (leb n 1024) t .1)))
     by-test m n false t e = let z : _≡_ {A = ℕ} 0 1 = cc in absurd (omega arith)
+
+pub sizes-hold : Sizes
+sizes-hold = record {
+  scalar = λ rows k. refl;
+  array = λ rows n e. length-repeated n (getD rows e []);
+  sequence = λ rows a b. length-append (getD rows a []) (getD rows b []);
+}

@@ -1,7 +1,8 @@
 -- How types lie in cells. Assumes nothing.
+use mathlib.Core.Path.{_≡_}
 use mathlib.Core.Bool.{Bool, true, false, cond, _&&_}
 use mathlib.Core.List.{List, [], _∷_, _++_}
-use Prim.Native.Nat.{ℕ, zero, suc}
+use Prim.Native.Nat.{ℕ, zero, suc, _+_, _*_}
 use lib.Dec.{leb, ltb}
 use lib.ListN.{length, getD}
 use Rattle.std.specs.declared.option.Option.{Option}
@@ -47,3 +48,9 @@ fitsIn ss s = ltb (length ss) 2000 && (refersBelow s (length ss) && sizeFits (le
 -- the place of a shape that was added, and the table then
 abbrev pub added : Shape → List Shape → Option ℕ × List Shape
 added s ss = cond (fitsIn ss s) (Some (length ss), ss ++ s ∷ []) (None, ss)
+
+-- a scalar is one cell; an array's size is its length times the size of its element, and a sequence's the sum of its parts' sizes
+pub record Sizes : Type 0 where
+  pub scalar : (rows : List (List Kind)) (k : Kind) → length (kindsOf rows (Scalar k)) ≡ 1
+  pub array : (rows : List (List Kind)) (n e : ℕ) → length (kindsOf rows (Array n e)) ≡ n * length (getD rows e [])
+  pub sequence : (rows : List (List Kind)) (a b : ℕ) → length (kindsOf rows (Sequence a b)) ≡ length (getD rows a []) + length (getD rows b [])

@@ -3,7 +3,7 @@ ghost use mathlib.Core.List.{[]};
 ghost use Prim.Native.Nat.{_*_, _≤_};
 ghost use lib.ListN.{length};
 ghost use Rattle.std.specs.Vec.{made};
-ghost use Rattle.shapes.specs.Forms.{added, kindsOf, measured, rowsOf};
+ghost use Rattle.shapes.specs.Forms.{Sizes, added, kindsOf, measured, rowsOf};
 ghost use Rattle.shapes.specs.Tables.{kindsAt, shapesIn};
 use super::Shapes;
 use crate::forms::Shape;
@@ -46,6 +46,7 @@ impl Shapes {
     pub fn size(&self, place: usize) -> usize
         ensures value { λ r. ⌜ r ≡ length (kindsAt (now (self .entry)) place) ⌝ }
         ensures small { λ r. ⌜ r ≤ 1024 ⌝ }
+        ensures sizes { λ _. ⌜ Sizes ⌝ }
     {
         if place < self.sizes.len() {
             self.sizes[place]

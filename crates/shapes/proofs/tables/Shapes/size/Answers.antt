@@ -6,7 +6,7 @@ use Rattle.std.specs.Of.Vec.{vec-items}
 use Rattle.std.proofs.shelf.Lists.{getD-past, getD-read}
 use Rattle.shapes.specs.Forms.{rowsOf}
 use Rattle.shapes.specs.Tables.{kindsAt}
-use Rattle.shapes.proofs.Rowed.{length-at}
+use Rattle.shapes.proofs.Rowed.{length-at, sizes-hold}
 use Rattle.shapes.proofs.tables.Shapes.size.Needs as need
 
 pub returns-then-place-len : need.returns-then-place-len
@@ -18,6 +18,7 @@ returns-then-place-len c =
     record {
       value = read ∙ ap (λ l. getD l i 0) (t .sized) ∙ length-at (rowsOf (vec-items (t .shapes))) i;
       small = omega (arith, read, t .small i);
+      sizes = sizes-hold;
     }
 
 pub returns-else-place-len : need.returns-else-place-len
@@ -28,4 +29,5 @@ returns-else-place-len c =
     record {
       value = sym (getD-past (vec-items (t .sizes)) i 0 past) ∙ ap (λ l. getD l i 0) (t .sized) ∙ length-at (rowsOf (vec-items (t .shapes))) i;
       small = omega arith;
+      sizes = sizes-hold;
     }

@@ -1,22 +1,22 @@
 ghost use mathlib.Core.Path.{_≡_};
 ghost use mathlib.Core.List.{[]};
 ghost use Rattle.bytes.specs.Held.{held};
-ghost use Rattle.cells.specs.Messages.{put};
+ghost use Rattle.cells.specs.Requests.{put};
 use bytes::Buffer;
 use reason::faults::RunFault;
 use value::values::Stop;
 
 // The request that a script puts together: at most 7 bytes.
 #[derive(Clone, Copy)]
-pub struct Message {
+pub struct Request {
     bytes: Buffer<7>,
 }
 
-impl Message {
-    pub fn new() -> Message
+impl Request {
+    pub fn new() -> Request
         ensures { λ r. ⌜ held (r .bytes) ≡ [] ⌝ }
     {
-        Message {
+        Request {
             bytes: Buffer::new(),
         }
     }
