@@ -78,7 +78,7 @@ fn visit(rt: &LibcRuntime, words: &[String]) -> Result<(), Failure> {
     let silent = sent.saturating_sub(replies);
     println!(
         rt,
-        "done: tape opened, {sent} requests sent, {replies} replies, {silent} silent, fill compared"
+        "done: tape opened; requests sent: {sent}, answered: {replies}, silent: {silent}; fill compared"
     )?;
     Ok(())
 }
@@ -87,7 +87,10 @@ fn visit(rt: &LibcRuntime, words: &[String]) -> Result<(), Failure> {
 fn play(rt: &LibcRuntime, tape: &mut Tape, requests: &[Vec<u8>]) -> Result<usize, Failure> {
     let mut replies = 0usize;
     for request in requests {
-        let asked = encode(rt.alloc(), request.as_slice())?;
+        let mut asked = encode(rt.alloc(), request.as_slice())?;
+        if request.is_empty() {
+            asked.push_str("-")?;
+        }
         if tape.send(request.as_slice()) {
             let reply = read_reply(tape, rt.alloc())?;
             let given = encode(rt.alloc(), reply.as_slice())?;
