@@ -87,7 +87,7 @@ impl Cell {
 }
 
 fn is_kind(found: Option<Kind>, wanted: Kind) -> bool
-    ensures { result ≡ is_kind IfSome wanted }
+    ensures { result ≡ is_kind found wanted }
 {
     match found {
         None => false,

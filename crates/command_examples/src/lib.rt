@@ -1,3 +1,5 @@
 // Examples of the command line and of what is printed, run as tests.
+#![tactic(auto)]
+
 #[cfg(test)]
 mod commands;

@@ -1,4 +1,6 @@
 // The handheld: plays a visit on a tape, and shows that its fill makes no difference.
+#![tactic(auto)]
+
 use command::failures::Failure;
 use command::fills::compare_fills;
 use command::requests::read_requests;

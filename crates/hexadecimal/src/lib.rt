@@ -1,4 +1,6 @@
 // Byte strings as hexadecimal text.
+#![tactic(auto)]
+
 ghost use Rattle.std.specs.Prelude.{◌≡◌, ◌<◌, IfOk, Some, vec_items, string_bytes};
 ghost use Rattle.std.specs.Option.{option_map};
 ghost use Rattle.hexadecimal.specs.Digits.{digit_of, glyph_of, pair_of};

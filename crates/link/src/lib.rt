@@ -1,3 +1,5 @@
+#![tactic(auto)]
+
 ghost use Rattle.std.specs.Prelude.{◌≡◌, ℕ, List, [], length};
 ghost use Rattle.buffers.specs.Bytes.{byte_at};
 ghost use Rattle.link.specs.Cars.{Car, Sound, Short, after, answered, reply_of};

@@ -3,6 +3,8 @@
 //   cast KIND NUMBER KIND
 //   new SIZE
 //   del ADDRESS
+#![tactic(auto)]
+
 use cells::stores::Store;
 use shapes::forms::Shape;
 use shapes::tables::Shapes;

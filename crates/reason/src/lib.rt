@@ -1,3 +1,5 @@
+#![tactic(auto)]
+
 pub mod errors;
 pub mod faults;
 pub mod layers;

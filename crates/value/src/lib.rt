@@ -1,4 +1,6 @@
 // Values of a running script, and the operators on them.
+#![tactic(auto)]
+
 pub mod binary;
 pub mod kinds;
 pub mod unary;
