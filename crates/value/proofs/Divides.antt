@@ -1,6 +1,6 @@
 -- Division at 64 bits. Assumes nothing.
-use Rattle.std.proofs.Common.{◌≡◌, ℕ, zero, suc, ℤ, pos, negsuc, Ok, Result, sym, refl, ap, ◌∙◌, arith, w64, SFits, to_z, of_z}
-use lib.Signed.{quot_z, rem_z}
+use Rattle.std.proofs.Common.{◌≡◌, zero, suc, ℤ, pos, negsuc, Ok, Result, sym, refl, ap, ◌∙◌, arith, w64, SFits, to_z, of_z}
+use lib.Signed.{quot_z}
 use Rattle.std.specs.Int.{int_wrap}
 use Rattle.std.proofs.lemmas.Int.{ints, int_wrap_fits, to_z-of_z}
 use Rattle.value.specs.Binary.{unless_zero}

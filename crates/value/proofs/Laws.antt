@@ -1,13 +1,11 @@
 -- The laws of the operators. Assumes nothing.
-use Rattle.std.proofs.Common.{◌≡◌, ℕ, zero, suc, ◌+◌, ◌-◌, ◌*◌, ◌/◌, ◌%◌, ◌^◌, ◌<◌, ◌≤◌, ℤ, pos, negsuc, ◌+ℤ◌, ◌*ℤ◌, neg_ℤ, nat_abs, ◌≤ℤ◌, Ok, sym, refl, ap, ◌∙◌, mod-lt, div-add-mod', zero-mul, arith, w64, SFits, of_z}
-use lib.Signed.{quot_z, rem_z, le_z_yes}
-use mir.Val.{bits, hbits}
+use Rattle.std.proofs.Common.{◌≡◌, ℕ, zero, suc, ◌+◌, ◌-◌, ◌*◌, ◌/◌, ◌%◌, ◌<◌, ℤ, pos, negsuc, ◌+ℤ◌, ◌*ℤ◌, neg_ℤ, nat_abs, Ok, sym, refl, ap, ◌∙◌, mod-lt, div-add-mod', zero-mul, arith, w64, SFits, of_z}
+use lib.Signed.{quot_z, rem_z}
 use Rattle.std.proofs.num.Quotients.{quotient_fits}
 use Rattle.std.proofs.lemmas.Int.{ints, int_wrap_fits}
-use Rattle.std.specs.Int.{int_rem_euclid, int_wrap}
-use Rattle.value.specs.Binary.{evaluated, integral, unless_zero}
-use Rattle.value.specs.Unary.{cast_of, low_byte}
-use Rattle.value.specs.Laws.{Division, Dividing, CharOf, Casting, SignOf, smallest}
+use Rattle.std.specs.Int.{int_wrap}
+use Rattle.value.specs.Binary.{integral}
+use Rattle.value.specs.Laws.{Division, Dividing, Casting, SignOf, smallest}
 use Rattle.value.specs.declared.values.Value.TheVariants.{Int}
 use Rattle.value.proofs.Divides.{least, nonzero}
 

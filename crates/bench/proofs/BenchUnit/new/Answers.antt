@@ -3,8 +3,8 @@ use Rattle.bench.specs.Codes.{row_room, row_fits, row-codes, made-bench}
 use Rattle.bench.specs.Served.{bench-serves}
 use Rattle.bench.proofs.BenchUnit.new.Goals as goal
 
-pub invariant-of-result : goal.invariant-of-result
-invariant-of-result c =
+pub invariant_of-result : goal.invariant_of-result
+invariant_of-result c =
     let cs = c.args.codes.now in
     let ds = c.copy-from-slice.new.self in
     let same : ds ≡ cs = c.copy-from-slice.ensures.after in

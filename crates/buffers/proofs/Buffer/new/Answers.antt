@@ -3,5 +3,5 @@ use Rattle.std.proofs.lemmas.List.{length-replicate}
 use Rattle.buffers.proofs.Bounds.{below-zeros}
 use Rattle.buffers.proofs.Buffer.new.Goals as goal
 
-pub invariant-of-result : goal.invariant-of-result
-invariant-of-result g c = (omega arith, (length-replicate g.row.N 0, (below-zeros 256 (lit< tt) g.row.N, tt)))
+pub invariant_of-result : goal.invariant_of-result
+invariant_of-result g c = record { sized = omega arith; room = length-replicate g.row.N 0; fits = below-zeros 256 (lit< tt) g.row.N }

@@ -4,10 +4,10 @@ use Rattle.std.proofs.lemmas.Bool.{cond-true, lt-ltb}
 use Rattle.buffers.proofs.Bounds.{below_set}
 use Rattle.buffers.proofs.Buffer.push.Goals as goal
 
-pub invariant-of-self : goal.invariant-of-self
-invariant-of-self g c =
+pub invariant_of-self : goal.invariant_of-self
+invariant_of-self g c =
     let m = c.args.self.now in
-    (omega arith, (length-set _ _ _ ∙ m.room, (below_set 256 (lit< tt) m.bytes m.len c.args.b m.fits c.ranges.b.fits, tt)))
+    record { sized = omega arith; room = length-set _ _ _ ∙ m.room; fits = below_set 256 (lit< tt) m.bytes m.len c.args.b m.fits c.ranges.b.fits }
 
 pub returns-then-self : goal.returns-then-self
 returns-then-self g c =

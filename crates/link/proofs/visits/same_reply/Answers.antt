@@ -7,8 +7,8 @@ use Rattle.link.proofs.visits.same_reply.Goals as goal
 pub returns-then-count : goal.returns-then-count
 returns-then-count g c = sym (other_length (g.X.Link.present c.args.left.now) (g.Y.Link.present c.args.right.now) (λ e. c.if-count.true (omega arith)))
 
-pub returns-then-not-same-byte : goal.returns-then-not-same-byte
-returns-then-not-same-byte g c =
+pub returns-then-not-same_byte : goal.returns-then-not-same_byte
+returns-then-not-same_byte g c =
     let p = g.X.Link.present c.args.left.now in
     let q = g.Y.Link.present c.args.right.now in
     let i = c.loop-i.i in

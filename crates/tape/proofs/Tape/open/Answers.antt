@@ -12,8 +12,8 @@ use Rattle.tape.proofs.Judged.{counted-err, counted-ok}
 use Rattle.tape.proofs.Tape.open.Goals as goal
 
 -- a refusal leaves the tape as it was
-pub returns-in-err-n : goal.returns-in-err-n
-returns-in-err-n c =
+pub returns-in_err-n : goal.returns-in_err-n
+returns-in_err-n c =
     let bs = c.args.bytes.now in
     let s = standing c.args.self.now in
     let p = err_from_is_err_and c.from-residual.result c.from-residual.ensures.1 in

@@ -7,8 +7,8 @@ use Rattle.tape.specs.Judgement.{judged, counted}
 use Rattle.tape.proofs.Judged.{whole-refusal, judged-wrong, judged-right, passed-err, passed_ok}
 use Rattle.tape.proofs.judge.judge.Goals as goal
 
-pub returns-in-err-judge-entry : goal.returns-in-err-judge-entry
-returns-in-err-judge-entry c =
+pub returns-in_err-judge_entry : goal.returns-in_err-judge_entry
+returns-in_err-judge_entry c =
     let bs = c.args.bytes.now in
     let i = c.loop-i.i in
     let n = length bs / 18 in

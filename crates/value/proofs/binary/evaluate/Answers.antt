@@ -2,4 +2,4 @@ use Rattle.value.proofs.Laws.{dividing}
 use Rattle.value.proofs.binary.evaluate.Goals as goal
 
 pub returns : goal.returns
-returns c = record { value = c.by-range.ensures; division = dividing }
+returns c = record { value = c.by_range.ensures; division = dividing }

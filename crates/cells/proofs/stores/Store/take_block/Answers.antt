@@ -14,8 +14,8 @@ returns-then-size-gt1024 g c =
     let e = new-over ks (memory s) over in
     record { result = sym (ap (λ p. p.0) e); after = sym (ap (λ p. p.1) e); some = some }
 
-pub returns-in-default : goal.returns-in-default
-returns-in-default g c =
+pub returns-in_default : goal.returns-in_default
+returns-in_default g c =
     let s = c.args.self.now in
     let ks = g.L.Layout.kinds c.args.layout.now in
     let some : 1 ≤ length ks = omega (arith, c.size-size.ensures.value, c.size-size.ensures.some) in

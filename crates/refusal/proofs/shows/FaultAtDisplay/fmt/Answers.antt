@@ -10,6 +10,6 @@ pub returns-clause-writes : goal.returns-clause-writes
 returns-clause-writes g c plain ok =
     let number = c.number-number.ensures ∙ ap fault_number c.fault.ensures in
     let layer = c.number-layer.ensures ∙ ap numeral (c.layer.ensures ∙ ap fault_layer c.fault-2.ensures) in
-    let words = c.fault-words-words.ensures ∙ ap fault_words c.fault-3.ensures in
+    let words = c.fault_words-words.ensures ∙ ap fault_words c.fault-3.ensures in
     let same = line-is _ _ _ _ _ _ _ _ number c.record-record.ensures layer words in
     subst (λ text. HasWritten g.W.Write.write_str_gives c.args.f.now text c.write.new.self) same (c.write.ensures.writes plain ok)

@@ -4,14 +4,14 @@ use Rattle.shapes.specs.Tables.{shapes_in}
 use Rattle.shapes.proofs.Rowed.{below_more, measured-some, sized-more, sizes-long, small-more}
 use Rattle.shapes.proofs.tables.Shapes.add.Goals as goal
 
-pub push-reserved-requires-2 : goal.push-reserved-requires-2
-push-reserved-requires-2 c =
+pub push_reserved-requires-2 : goal.push_reserved-requires-2
+push_reserved-requires-2 c =
     let s = c.args.self.now in
     let as_many = sizes-long (vec_items s.sizes) (shapes_in s) s.sized in
     omega (arith, as_many, s.sizes.ok.0, s.shapes.ok.0, s.room.1)
 
-pub invariant-of-self : goal.invariant-of-self
-invariant-of-self c =
+pub invariant_of-self : goal.invariant_of-self
+invariant_of-self c =
     let s = c.args.self.now in
     let n = c.in-Some.size in
     let m = measured-some n (length (kinds_of (rows_of (shapes_in s)) c.args.shape)) c.in-Some.ensures in
