@@ -1,8 +1,8 @@
 -- What a bench unit answers, over whole visits. Assumes nothing.
-use Rattle.std.specs.Prelude.{◌≡◌, ℕ, zero, suc, ◌<◌, ◌≤◌, Bool, true, false, cond, List, [], ◌∷◌, ◌++◌, length, ◌≢◌, nat_eq, refl}
-use Rattle.std.proofs.Common.{sym, ap, ◌∙◌, ⊎_elim, arith, lit<, lit≤}
+use Rattle.std.specs.Prelude.{◌≡◌, ℕ, zero, suc, ◌<◌, ◌≤◌, false, List, [], ◌∷◌, ◌++◌, length, ◌≢◌, nat_eq, refl}
+use Rattle.std.proofs.Common.{ap, ◌∙◌, ⊎_elim, arith, lit<, lit≤}
 use Rattle.std.specs.List.{AllByRecursion as All}
-use Rattle.std.proofs.lemmas.Bool.{cond-false, eqb-true, eq-eqb, ne_eqb, cases_eq}
+use Rattle.std.proofs.lemmas.Bool.{cond-false, ne_eqb, cases_eq}
 use Rattle.buffers.specs.Bytes.{Below, Bytes}
 use Rattle.link.specs.Cars.{silence, reply, Proper, Sound}
 use Rattle.bench.specs.Services.{by_code, service_of}

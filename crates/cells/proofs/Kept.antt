@@ -1,5 +1,5 @@
 -- What the calls leave as it was. Assumes nothing.
-use Rattle.std.proofs.Common.{◌≡◌, ℕ, zero, suc, ◌+◌, ◌-◌, ◌<◌, ◌≤◌, Bool, true, false, cond, eqb, leb, List, [], ◌∷◌, map, length, get_or, take, drop, set, replicate, ℤ, Some, None, Ok, Err, Option, Result, sym, refl, ap, ◌∙◌, subst, ⊎_elim, arith}
+use Rattle.std.proofs.Common.{◌≡◌, ℕ, zero, suc, ◌+◌, ◌-◌, ◌≤◌, true, eqb, leb, List, [], ◌∷◌, map, length, get_or, take, drop, set, replicate, ℤ, Some, None, Ok, Err, Option, Result, sym, refl, ap, ◌∙◌, ⊎_elim, arith}
 use Rattle.std.proofs.lemmas.List.{length-replicate, map-set, set-get_or, take-set-le, drop-set-lt}
 use Rattle.std.proofs.lemmas.Bool.{cond_both, leb-true, cases_lt}
 use Rattle.value.specs.Values.{kind_of}
@@ -12,7 +12,7 @@ use Rattle.cells.specs.Cells.{at, as_kind, cell_at, cell_of, index_of, is_kind, 
 use Rattle.cells.specs.Fits.{first_row}
 use Rattle.cells.specs.Laws.{KeepsKinds, KeepsFirst, LeavesHeap, LeavesVariables}
 use Rattle.cells.specs.Layouts.{fresh}
-use Rattle.cells.specs.Memory.{Memory, After, above, block_at, deleted, deleted_at, drop_block, given_up, laid, laid_as, laid_value, newed, place, refuses, written}
+use Rattle.cells.specs.Memory.{Memory, After, above, block_at, deleted, deleted_at, drop_block, given_up, laid, laid_as, laid_value, newed, place, written}
 use Rattle.cells.specs.Rows.{painted}
 use Rattle.cells.specs.declared.cell.Cell.{Cell}
 use Rattle.cells.specs.declared.cell.Cell.TheVariants as cell

@@ -1,9 +1,9 @@
 -- The search for a row. Assumes nothing.
-use Rattle.std.proofs.Common.{◌≡◌, ℕ, zero, suc, ◌+◌, ◌-◌, ◌<◌, ◌≤◌, Bool, true, false, cond, ◌&&◌, List, length, get_or, Some, None, Option, sym, refl, ap, ◌∙◌, arith}
+use Rattle.std.proofs.Common.{◌≡◌, ℕ, suc, ◌+◌, ◌-◌, ◌<◌, ◌≤◌, Bool, true, false, cond, ◌&&◌, List, length, get_or, Some, None, Option, sym, ap, ◌∙◌, arith}
 use Rattle.value.specs.declared.kinds.Kind.TheVariants.{Char}
 use Rattle.std.proofs.lemmas.List.{get_or_past, get_or_default}
 use Rattle.cells.specs.declared.cell.Cell.{Cell}
-use Rattle.cells.specs.declared.cell.Cell.TheVariants.{Dead, Unwritten}
+use Rattle.cells.specs.declared.cell.Cell.TheVariants.{Unwritten}
 use Rattle.cells.specs.Fits.{dead_at, is_dead, row, first_from}
 
 -- one cell of a row

@@ -1,5 +1,5 @@
 -- `new` finds the lowest row, and `del` undoes it. Assumes nothing.
-use Rattle.std.proofs.Common.{◌≡◌, ℕ, zero, suc, ◌+◌, ◌-◌, ◌<◌, ◌≤◌, true, false, ltb, leb, List, length, get_or, drop, set, replicate, ℤ, pos, Some, None, Option, sym, refl, ap, ◌∙◌, subst, arith}
+use Rattle.std.proofs.Common.{◌≡◌, ℕ, zero, suc, ◌+◌, ◌-◌, ◌<◌, ◌≤◌, false, leb, List, length, get_or, drop, set, replicate, ℤ, pos, Some, None, Option, sym, refl, ap, ◌∙◌, arith}
 use Rattle.std.proofs.lemmas.List.{get_or-drop, get_or-set_same, length-drop, length-replicate}
 use Rattle.std.proofs.lemmas.Bool.{cond_both, cond-true, leb-false, le-leb, lt-ltb}
 use Rattle.value.specs.declared.kinds.Kind.{Kind}
@@ -9,7 +9,6 @@ use Rattle.cells.specs.Laws.{DeadRow, Finds, Lowest, Restores}
 use Rattle.cells.specs.Layouts.{fresh}
 use Rattle.cells.specs.Memory.{Memory, After, block_at, deleted, deleted_at, drop_block, newed}
 use Rattle.cells.specs.Rows.{painted}
-use Rattle.cells.specs.declared.cell.Cell.{Cell}
 use Rattle.cells.specs.declared.cell.Cell.TheVariants.{Dead}
 use Rattle.cells.proofs.Found.{dead-over, first-lowest, painted-over}
 use Rattle.cells.proofs.Stored.{length-fresh}

@@ -18,8 +18,8 @@ pub fn put(cells: &mut Vec<Cell>, i: usize, cell: Cell)
 
 // A row of cells from a place on comes to life, unwritten.
 pub fn enliven<L: Layout>(cells: &mut Vec<Cell>, at: usize, layout: &L)
-    requires { at + length (kinds layout.now) < 2 ^ 32 }
-    ensures items { cells.new.items ≡ painted cells.old.items at (fresh (kinds layout.now)) }
+    requires { at + length (L.kinds layout.now) < 2 ^ 32 }
+    ensures items { cells.new.items ≡ painted cells.old.items at (fresh (L.kinds layout.now)) }
     ensures len { vec_len cells.new ≡ vec_len cells.old }
 {
     for i in 0..layout.size() {

@@ -1,5 +1,5 @@
 -- Byte strings as hexadecimal text. Assumes nothing.
-use Rattle.std.specs.Prelude.{ℕ, ◌/◌, ◌%◌, List, [], ◌∷◌, ◌++◌, Some, None, Option}
+use Rattle.std.specs.Prelude.{ℕ, ◌/◌, ◌%◌, List, [], ◌∷◌, Some, None, Option}
 use Rattle.std.specs.List.{flat_map}
 use Rattle.hexadecimal.specs.Digits.{pair_of, glyph_of}
 

@@ -8,7 +8,7 @@ use std::alloc::{AllocError, Global};
 
 // The bytes of the present reply.
 pub fn read_reply<L: Link>(link: &L, heap: Global) -> Result<Vec<u8>, AllocError>
-    ensures { IfOk result (λ v. v.items ≡ present link.now) }
+    ensures { IfOk result (λ v. v.items ≡ L.present link.now) }
 {
     let mut bytes = Vec::new(heap);
     for i in 0..link.count() {

@@ -1,5 +1,5 @@
 -- How types lie in cells. Assumes nothing.
-use Rattle.std.specs.Prelude.{◌≡◌, ℕ, zero, suc, ◌+◌, ◌*◌, Bool, true, false, cond, ◌&&◌, List, [], ◌∷◌, ◌++◌, length, Some, None, Option, nat_le, nat_lt, slice_index_or}
+use Rattle.std.specs.Prelude.{◌≡◌, ℕ, zero, suc, ◌+◌, ◌*◌, Bool, true, cond, ◌&&◌, List, [], ◌∷◌, ◌++◌, length, Some, None, Option, nat_le, nat_lt, slice_index_or}
 use Rattle.value.specs.declared.kinds.Kind.{Kind}
 use Rattle.shapes.specs.declared.forms.Shape.{Shape}
 use Rattle.shapes.specs.declared.forms.Shape.TheVariants.{Scalar, Array, Sequence}

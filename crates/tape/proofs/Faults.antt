@@ -1,6 +1,6 @@
 -- The judgement of a tape tells the first rule that is broken. Assumes nothing.
-use Rattle.std.proofs.Common.{◌≡◌, ℕ, zero, suc, ◌+◌, ◌-◌, ◌/◌, ◌%◌, ◌<◌, ◌≤◌, Bool, true, false, cond, ◌&&◌, eqb, leb, ◌⊎◌, List, [], ◌∷◌, length, get_or, take, drop, Some, None, Ok, Err, Option, sym, refl, ap, ◌∙◌, subst, inl, inr, ⊎_elim, arith, lit≤}
-use Rattle.std.proofs.lemmas.List.{get_or-take, get_or-drop, get_or_past, length-take, length-drop}
+use Rattle.std.proofs.Common.{◌≡◌, ℕ, zero, suc, ◌+◌, ◌-◌, ◌/◌, ◌%◌, ◌<◌, ◌≤◌, Bool, true, false, cond, ◌&&◌, eqb, leb, ◌⊎◌, List, [], ◌∷◌, length, get_or, take, drop, Some, None, Option, sym, refl, ap, ◌∙◌, subst, inl, inr, ⊎_elim, arith, lit≤}
+use Rattle.std.proofs.lemmas.List.{get_or-take, get_or-drop, length-take, length-drop}
 use Rattle.std.proofs.lemmas.Bool.{and_parts, and_cases, eq-eqb, eqb-true, eqb-false, leb-true, le-leb, both_ways}
 use Rattle.buffers.specs.Records.{records_of, record_at}
 use Rattle.buffers.proofs.Cuts.{length-records, get_or-record_at}
@@ -10,8 +10,8 @@ use Rattle.reason.specs.declared.errors.LinkError.TheVariants.{Size, Mark, Paddi
 use Rattle.reason.specs.declared.reasons.Reason.TheVariants.{Link}
 use Rattle.refusal.specs.declared.refusals.Refusal.{Refusal}
 use Rattle.tape.specs.Entries.{marked, padded, sized, zeros, request_length, reply_count}
-use Rattle.tape.specs.Judgement.{judged, wrong, or_else, refusal_of, verdict, counted}
-use Rattle.tape.specs.Rules.{Faulty, mark, padding, request, reply, Broken, size, entry, First, Judged}
+use Rattle.tape.specs.Judgement.{judged, wrong, or_else, verdict, counted}
+use Rattle.tape.specs.Rules.{Faulty, mark, padding, request, reply, Broken, size, entry, Judged}
 
 -- a row of zeros, and one that is none
 zeros-all : (xs : List ℕ) → zeros xs ≡ true → (j : ℕ) → get_or xs j 0 ≡ 0

@@ -1,17 +1,15 @@
 -- Fill plays no part in a tape, and a tape plays its entries. Assumes nothing.
-use Rattle.std.proofs.Common.{◌≡◌, ℕ, zero, suc, ◌+◌, ◌-◌, ◌*◌, ◌/◌, ◌%◌, ◌<◌, ◌≤◌, true, cond, ◌&&◌, eqb, leb, List, [], ◌∷◌, map, length, get_or, take, drop, Some, None, Option, sym, refl, ap, ◌∙◌, subst, arith, lit<, lit≤}
-use Rattle.std.specs.Str.{bytes_eq}
+use Rattle.std.proofs.Common.{◌≡◌, ℕ, suc, ◌+◌, ◌/◌, ◌%◌, ◌<◌, ◌≤◌, cond, ◌&&◌, eqb, leb, List, [], ◌∷◌, map, length, get_or, take, drop, Some, None, sym, refl, ap, ◌∙◌, subst, arith, lit<, lit≤}
 use Rattle.std.proofs.lemmas.List.{ext_get_or, get_or-take, get_or-drop, length-take, length-drop, take-take}
 use Rattle.std.proofs.lemmas.Slice.Eq.{bytes_eq-Decides}
-use Rattle.buffers.specs.Records.{records, records_of, record_at}
+use Rattle.buffers.specs.Records.{records_of, record_at}
 use Rattle.buffers.proofs.Cuts.{length-records, get_or-record_at, length-record}
 use Rattle.link.specs.Cars.{silence, reply}
 use Rattle.link.specs.Visits.{answers}
 use Rattle.refusal.specs.Refusals.{refused}
 use Rattle.reason.specs.declared.errors.LinkError.TheVariants.{Size, Mark, Padding, Range}
 use Rattle.reason.specs.declared.reasons.Reason.TheVariants.{Link}
-use Rattle.refusal.specs.declared.refusals.Refusal.{Refusal}
-use Rattle.tape.specs.Entries.{Exchange, exchange_of, zeros, sized, request_length, reply_count}
+use Rattle.tape.specs.Entries.{Exchange, exchange_of, zeros, sized, reply_count}
 use Rattle.tape.specs.Judgement.{judged, wrong, or_else, refusal_of, verdict, counted}
 use Rattle.tape.specs.Plays.{Standing, opened, unless_refused, tape_car, Replays}
 use Rattle.tape.specs.Fills.{OnlyFill}

@@ -1,6 +1,6 @@
 -- A tape with another fill. Assumes nothing.
-use Rattle.std.proofs.Common.{◌≡◌, ℕ, zero, suc, ◌+◌, ◌-◌, ◌*◌, ◌/◌, ◌%◌, ◌<◌, ◌≤◌, false, cond, leb, List, [], ◌∷◌, ◌++◌, length, get_or, take, drop, sym, refl, ap, ◌∙◌, zero-add, arith, lit<}
-use Rattle.std.proofs.lemmas.List.{get_or-take, get_or-drop, take_more, length-take-le, take_all}
+use Rattle.std.proofs.Common.{◌≡◌, ℕ, zero, suc, ◌+◌, ◌-◌, ◌*◌, ◌/◌, ◌%◌, ◌<◌, ◌≤◌, false, List, [], ◌∷◌, ◌++◌, length, get_or, take, drop, sym, refl, ap, ◌∙◌, zero-add, arith, lit<}
+use Rattle.std.proofs.lemmas.List.{get_or-take, get_or-drop, take_more, length-take-le}
 use Rattle.std.proofs.lemmas.Bool.{cond-false, lt-leb}
 use Rattle.buffers.specs.Records.{record_at}
 use Rattle.tape.specs.Entries.{reply_count}

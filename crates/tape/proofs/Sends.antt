@@ -1,10 +1,9 @@
 -- What a tape answers, by how it stands. Assumes nothing.
-use Rattle.std.proofs.Common.{◌≡◌, ℕ, ◌+◌, ◌<◌, ◌≤◌, true, false, cond, List, [], ◌∷◌, map, length, get_or, drop, sym, refl, ap, ◌∙◌}
+use Rattle.std.proofs.Common.{◌≡◌, ℕ, ◌+◌, ◌<◌, ◌≤◌, true, false, List, ◌∷◌, map, length, get_or, drop, sym, ap, ◌∙◌}
 use Rattle.std.specs.Str.{bytes_eq}
 use Rattle.std.proofs.lemmas.List.{drop_more, drop_all}
 use Rattle.std.proofs.lemmas.Bool.{cond-true, cond-false}
 use Rattle.link.specs.Cars.{silence, reply}
-use Rattle.tape.specs.Entries.{Exchange}
 use Rattle.tape.specs.Plays.{answer_of, moved}
 use Rattle.tape.specs.Views.{exchange}
 use Rattle.tape.specs.declared.entries.Entry.{Entry}

@@ -2,7 +2,7 @@
 --
 -- An entry has 18 bytes: 0 and 1 are the mark QA; 2 is the request's length, 3 to 9 hold the request and then 0s; 10 to 17 are
 -- the frame: 10 is the count n of the reply, 11 to 10 + n hold the reply, and what follows is fill of any value.
-use Rattle.std.specs.Prelude.{◌≡◌, ℕ, Bool, true, false, ◌&&◌, List, [], ◌∷◌, take, drop, ◌==◌, nat_le, slice_index}
+use Rattle.std.specs.Prelude.{◌≡◌, ℕ, Bool, true, ◌&&◌, List, [], ◌∷◌, take, drop, ◌==◌, nat_le, slice_index}
 
 abbrev pub marked : List ℕ → Bool
 marked e = slice_index e 0 == 81 && slice_index e 1 == 65

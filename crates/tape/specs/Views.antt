@@ -1,5 +1,5 @@
 -- How a tape stands, from what it holds. Assumes nothing.
-use Rattle.std.specs.Prelude.{List, map, drop, vec_items}
+use Rattle.std.specs.Prelude.{map, drop, vec_items}
 use Rattle.buffers.specs.Held.{held}
 use Rattle.tape.specs.Entries.{Exchange}
 use Rattle.tape.specs.Plays.{Standing}

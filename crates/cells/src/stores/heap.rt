@@ -13,9 +13,9 @@ use value::values::Stop;
 
 impl Store {
     fn take_block<L: Layout>(&mut self, layout: &L) -> Result<i64, Stop>
-        ensures result { result ≡ (newed (kinds layout.now) (memory self.old)).0 }
-        ensures after { memory self.new ≡ (newed (kinds layout.now) (memory self.old)).1 }
-        ensures some { 1 ≤ length (kinds layout.now) }
+        ensures result { result ≡ (newed (L.kinds layout.now) (memory self.old)).0 }
+        ensures after { memory self.new ≡ (newed (L.kinds layout.now) (memory self.old)).1 }
+        ensures some { 1 ≤ length (L.kinds layout.now) }
     {
         let size = layout.size();
         if size > 1024 {
@@ -52,9 +52,9 @@ impl Store {
 
     // A block of `new`, in the lowest row of dead cells that is long enough; its first cell is told. Fault 34 where there is none.
     pub fn new_block<L: Layout>(&mut self, layout: &L) -> Result<i64, Stop>
-        ensures result { result ≡ (newed (kinds layout.now) (memory self.old)).0 }
-        ensures after { memory self.new ≡ (newed (kinds layout.now) (memory self.old)).1 }
-        ensures lowest { Finds (drop 1024 (memory self.old).cells) (length (kinds layout.now)) result }
+        ensures result { result ≡ (newed (L.kinds layout.now) (memory self.old)).0 }
+        ensures after { memory self.new ≡ (newed (L.kinds layout.now) (memory self.old)).1 }
+        ensures lowest { Finds (drop 1024 (memory self.old).cells) (length (L.kinds layout.now)) result }
         ensures undone { Restores (memory self.old) result (memory self.new) }
         ensures variables { LeavesVariables (memory self.old) (memory self.new) }
     {

@@ -19,8 +19,8 @@ impl Store {
     }
 
     fn lay_row<L: Layout>(&mut self, layout: &L) -> Result<i64, Stop>
-        ensures result { result ≡ (laid (kinds layout.now) (memory self.old)).0 }
-        ensures after { memory self.new ≡ (laid (kinds layout.now) (memory self.old)).1 }
+        ensures result { result ≡ (laid (L.kinds layout.now) (memory self.old)).0 }
+        ensures after { memory self.new ≡ (laid (L.kinds layout.now) (memory self.old)).1 }
     {
         let size = layout.size();
         let used = self.used;
@@ -60,8 +60,8 @@ impl Store {
 
     // A variable comes to life above what is in use, unwritten; its first cell is told. Fault 35 where it does not fit.
     pub fn lay<L: Layout>(&mut self, layout: &L) -> Result<i64, Stop>
-        ensures result { result ≡ (laid (kinds layout.now) (memory self.old)).0 }
-        ensures after { memory self.new ≡ (laid (kinds layout.now) (memory self.old)).1 }
+        ensures result { result ≡ (laid (L.kinds layout.now) (memory self.old)).0 }
+        ensures after { memory self.new ≡ (laid (L.kinds layout.now) (memory self.old)).1 }
         ensures heap { LeavesHeap (memory self.old) (memory self.new) }
         ensures first { KeepsFirst (memory self.old).used (memory self.old) (memory self.new) }
     {

@@ -1,4 +1,4 @@
-use Rattle.std.proofs.Common.{◌≡◌, ◌+◌, ◌*◌, ◌<◌, ◌≤◌, length, vec_items, sym, ap, ◌∙◌, arith}
+use Rattle.std.proofs.Common.{◌≡◌, ◌+◌, ◌*◌, ◌<◌, ◌≤◌, length, vec_items, sym, ◌∙◌, arith}
 use Rattle.hexadecimal.proofs.Pairs.{pair-bad, pair-more, odd-end, even-end}
 use Rattle.hexadecimal.proofs.decode.Goals as goal
 
@@ -14,7 +14,7 @@ loop-i-preserved c =
     let text = c.args.text.now in
     let i = c.loop-i.i in
     let within : 2 * i + 1 < length text = omega arith in
-    pair-more text i (vec_items c.loop-i.bytes) _ _ within c.in-Some.ensures c.in-ok-push.ensures.items ∙ c.loop-i.invariant
+    pair-more text i (vec_items c.loop-i.bytes) _ _ within c.in-Some.ensures c.in_ok-push-in-Some.ensures.items ∙ c.loop-i.invariant
 
 pub returns-then-text-ne0 : goal.returns-then-text-ne0
 returns-then-text-ne0 c =

@@ -3,7 +3,7 @@ use Rattle.cells.specs.Layouts.{fresh}
 use Rattle.cells.specs.Rows.{painted}
 use Rattle.cells.proofs.Painted.{enliven-more, enliven-end, kind-there}
 use Rattle.cells.proofs.rows.enliven.Goals as goal
-use Rattle.cells.proofs.rows.enliven.Goals.{in-Some, in-default}
+use Rattle.cells.proofs.rows.enliven.Goals.{in-Some, in_default}
 
 pub loop-i-init : goal.loop-i-init
 loop-i-init g c =
@@ -19,11 +19,11 @@ loop-i-preserved g c =
     let cs = vec_items c.loop-i.cells in
     let more : painted (vec_items c.match-kind.cells) (c.args.at + (i + 1)) (fresh (drop (i + 1) ks)) ≡ painted cs (c.args.at + i) (fresh (drop i ks)) = elim c.match-kind.branch [
       | in-Some w ↦ enliven-more cs _ c.args.at i ks w.in-Some.kind w.in-Some.ensures (ap vec_items w.cells-is ∙ w.put.ensures.items)
-      | in-default w ↦ absurd (kind-there ks i within w.in-default.ensures)
+      | in_default w ↦ absurd (kind-there ks i within w.in_default.ensures)
     ] in
     let long : vec_len c.match-kind.cells ≡ vec_len c.loop-i.cells = elim c.match-kind.branch [
       | in-Some w ↦ ap vec_len w.cells-is ∙ w.put.ensures.len
-      | in-default w ↦ ap vec_len w.cells-is
+      | in_default w ↦ ap vec_len w.cells-is
     ] in
     (more ∙ c.loop-i.invariant.0, long ∙ c.loop-i.invariant.1)
 

@@ -1,4 +1,4 @@
-use Rattle.std.proofs.Common.{◌≡◌, ◌+◌, ◌-◌, replicate, vec_items, sym, refl, ap, ◌∙◌, arith}
+use Rattle.std.proofs.Common.{◌≡◌, ◌+◌, ◌-◌, replicate, vec_items, sym, refl, ◌∙◌, arith}
 use Rattle.cells.specs.Rows.{painted}
 use Rattle.cells.specs.declared.cell.Cell.TheVariants.{Dead}
 use Rattle.cells.proofs.Painted.{kill-more, kill-end}

@@ -2,7 +2,7 @@ use Rattle.std.proofs.Common.{◌≡◌, ◌+◌, ◌<◌, ◌≤◌, length, ta
 use Rattle.std.proofs.lemmas.List.{take_all}
 use Rattle.link.proofs.Replies.{read_more, none-past}
 use Rattle.link.proofs.visits.read_reply.Goals as goal
-use Rattle.link.proofs.visits.read_reply.Goals.{in-Some+in-ok-push, in-default}
+use Rattle.link.proofs.visits.read_reply.Goals.{in-Some+in_ok-push, in_default}
 
 pub loop-i-preserved : goal.loop-i-preserved
 loop-i-preserved g c =
@@ -10,8 +10,8 @@ loop-i-preserved g c =
     let i = c.loop-i.i in
     let within : i < length p = omega arith in
     let more : vec_items c.match-byte.bytes ≡ take (i + 1) p = elim c.match-byte.branch [
-      | in-Some+in-ok-push w ↦ ap vec_items w.bytes-is ∙ w.in-ok-push.ensures.items ∙ read_more p (vec_items c.loop-i.bytes) i w.in-Some.b within w.in-Some.ensures c.loop-i.invariant
-      | in-default w ↦ absurd (none-past p i within w.in-default.ensures)
+      | in-Some+in_ok-push w ↦ ap vec_items w.bytes-is ∙ w.in_ok-push.ensures.items ∙ read_more p (vec_items c.loop-i.bytes) i w.in-Some.b within w.in-Some.ensures c.loop-i.invariant
+      | in_default w ↦ absurd (none-past p i within w.in_default.ensures)
     ] in
     more
 

@@ -13,7 +13,7 @@ returns-then-not-same_byte g c =
     let q = g.Y.Link.present c.args.right.now in
     let i = c.loop-i.i in
     let within : i < length p = omega arith in
-    let test : same_byte (byte_at p i) (byte_at q i) ≡ false = sym (c.if-not-same-byte.ensures ∙ (λ k. same_byte (c.byte.ensures k) (c.byte-in-loop-i.ensures k))) in
+    let test : same_byte (byte_at p i) (byte_at q i) ≡ false = sym (c.if-not-same_byte.ensures ∙ (λ k. same_byte (c.byte.ensures k) (c.byte-in-loop-i.ensures k))) in
     sym (bytes-differ p q i c.loop-i.invariant.0 within test) ∙ c.loop-i.invariant.1
 
 pub loop-i-preserved : goal.loop-i-preserved
@@ -22,7 +22,7 @@ loop-i-preserved g c =
     let q = g.Y.Link.present c.args.right.now in
     let i = c.loop-i.i in
     let within : i < length p = omega arith in
-    let test : same_byte (byte_at p i) (byte_at q i) ≡ true = sym (c.if-not-same-byte.ensures ∙ (λ k. same_byte (c.byte.ensures k) (c.byte-in-loop-i.ensures k))) in
+    let test : same_byte (byte_at p i) (byte_at q i) ≡ true = sym (c.if-not-same_byte.ensures ∙ (λ k. same_byte (c.byte.ensures k) (c.byte-in-loop-i.ensures k))) in
     (c.loop-i.invariant.0, sym (bytes-agree p q i c.loop-i.invariant.0 within test) ∙ c.loop-i.invariant.1)
 
 pub returns : goal.returns

@@ -1,4 +1,4 @@
-use Rattle.std.proofs.Common.{◌≡◌, ◌+◌, [], map, drop, vec_items, sym, ap, ◌∙◌, subst}
+use Rattle.std.proofs.Common.{◌+◌, map, drop, vec_items, sym, ap, ◌∙◌, subst}
 use Rattle.std.proofs.lemmas.List.{drop_all}
 use Rattle.link.specs.Visits.{answers, Differs}
 use Rattle.link.proofs.Sides.{next-request, after_more, reply-more, first_more, after-end, reply-end, first-end, alike-never-differ, alike-after, alike_is, first-differs}
@@ -9,14 +9,14 @@ loop-i-preserved g c =
     let rs = c.args.requests.now in
     let i = c.loop-i.i in
     let rest = map vec_items (drop (i + 1) rs) in
-    let sent = c.send-both-same.ensures in
-    let q = c.as-slice.result.now in
-    let is = next-request vec_items rs i c.index-requests-i.result q c.loop-i-test.true c.index-requests-i.is c.as-slice.ensures.value in (
-      first_more _ rest q is (i + 1) _ _ _ _ c.loop-i.first _ _ sent.left-next sent.right-next sent.same c.or-at-first.ensures ∙ c.loop-i.invariant.0,
-      after_more _ rest q is _ _ sent.left-next ∙ c.loop-i.invariant.1,
-      reply-more _ rest q is _ _ (g.X.Link.present c.loop-i.left) _ sent.left-next sent.left-shown ∙ c.loop-i.invariant.2,
-      after_more _ rest q is _ _ sent.right-next ∙ c.loop-i.invariant.3,
-      reply-more _ rest q is _ _ (g.Y.Link.present c.loop-i.right) _ sent.right-next sent.right-shown ∙ c.loop-i.invariant.4,
+    let sent = c.send_both-same.ensures in
+    let q = c.as_slice.result.now in
+    let is = next-request vec_items rs i c.index-requests-i.result q c.loop-i-test.true c.index-requests-i.is c.as_slice.ensures.value in (
+      first_more _ rest q is (i + 1) _ _ _ _ c.loop-i.first _ _ sent.left_next sent.right_next sent.same c.or_at-first.ensures ∙ c.loop-i.invariant.0,
+      after_more _ rest q is _ _ sent.left_next ∙ c.loop-i.invariant.1,
+      reply-more _ rest q is _ _ (g.X.Link.present c.loop-i.left) _ sent.left_next sent.left_shown ∙ c.loop-i.invariant.2,
+      after_more _ rest q is _ _ sent.right_next ∙ c.loop-i.invariant.3,
+      reply-more _ rest q is _ _ (g.Y.Link.present c.loop-i.right) _ sent.right_next sent.right_shown ∙ c.loop-i.invariant.4,
     )
 
 pub returns : goal.returns
@@ -34,9 +34,9 @@ returns g c =
     record {
       first = first;
       differs = subst (Differs 1 (answers left qs) (answers right qs)) (sym first) (first-differs 1 left right qs);
-      left-next = left-next;
-      left-shown = left-shown;
-      right-next = right-next;
-      right-shown = right-shown;
+      left_next = left-next;
+      left_shown = left-shown;
+      right_next = right-next;
+      right_shown = right-shown;
       alike = λ a. (first ∙ alike-never-differ 1 left right qs a.cars, alike_is _ _ _ _ _ _ _ _ left-next left-shown right-next right-shown (alike-after left right _ _ qs a));
     }

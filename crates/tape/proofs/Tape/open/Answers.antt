@@ -1,4 +1,4 @@
-use Rattle.std.proofs.Common.{◌≡◌, map, Ok, Err, sym, ap, ◌∙◌, subst}
+use Rattle.std.proofs.Common.{◌≡◌, map, Err, sym, ap, ◌∙◌, subst}
 use Rattle.std.proofs.lemmas.Result.{err_from_is_err_and}
 use Rattle.buffers.specs.Records.{records_of}
 use Rattle.tape.specs.Entries.{exchange_of}
@@ -16,9 +16,9 @@ pub returns-in_err-n : goal.returns-in_err-n
 returns-in_err-n c =
     let bs = c.args.bytes.now in
     let s = standing c.args.self.now in
-    let p = err_from_is_err_and c.from-residual.result c.from-residual.ensures.1 in
-    let result : c.from-residual.result ≡ verdict bs = p.1 ∙ ap Err p.2 ∙ c.in-err-n.ensures in
-    let refusal = counted-err _ (refusal_of bs) _ (sym c.in-err-n.ensures) in
+    let p = err_from_is_err_and c.from_residual.result c.from_residual.ensures.1 in
+    let result : c.from_residual.result ≡ verdict bs = p.1 ∙ ap Err p.2 ∙ c.in_err-n.ensures in
+    let refusal = counted-err _ (refusal_of bs) _ (sym c.in_err-n.ensures) in
     let after : s ≡ opened bs s = sym (ap (λ o. unless_refused o (map exchange_of (records_of bs)) s) refusal) in
     record {
       result = result;
@@ -32,9 +32,9 @@ pub returns : goal.returns
 returns c =
     let bs = c.args.bytes.now in
     let s = standing c.args.self.now in
-    let result = c.in-ok-n.ensures in
+    let result = c.in_ok-n.ensures in
     let none = counted-ok _ (refusal_of bs) _ (sym result) in
-    let taken : ◌≡◌ {A = Standing} (record { left = _; shown = _ }) (record { left = map exchange_of (records_of bs); shown = _ }) = λ t. record { left = c.decode-all.ensures.items t; shown = c.new-self.ensures t } in
+    let taken : ◌≡◌ {A = Standing} (record { left = _; shown = _ }) (record { left = map exchange_of (records_of bs); shown = _ }) = λ t. record { left = c.decode_all.ensures.items t; shown = c.new-self.ensures t } in
     let after = taken ∙ sym (ap (λ o. unless_refused o (map exchange_of (records_of bs)) s) none) in
     record {
       result = result;

@@ -1,4 +1,4 @@
-use Rattle.std.proofs.Common.{vec_items, sym, ap, ◌∙◌, subst}
+use Rattle.std.proofs.Common.{sym, ap, ◌∙◌, subst}
 use Rattle.std.proofs.lemmas.List.{take_all}
 use Rattle.tape.specs.Fills.{OnlyFill, invert_from}
 use Rattle.tape.proofs.Inverted.{fill_more, inverted-only}
@@ -7,7 +7,7 @@ use Rattle.tape.proofs.fills.invert_fill.Goals as goal
 pub loop-p-preserved : goal.loop-p-preserved
 loop-p-preserved c =
     let bs = c.args.bytes.now in
-    c.in-ok-push.ensures.items ∙ fill_more bs c.loop-p.p _ _ c.loop-p-test.true c.loop-p.invariant c.inverted-byte.ensures
+    c.in_ok-push.ensures.items ∙ fill_more bs c.loop-p.p _ _ c.loop-p-test.true c.loop-p.invariant c.inverted_byte.ensures
 
 pub returns : goal.returns
 returns c =

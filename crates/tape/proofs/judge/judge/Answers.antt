@@ -1,4 +1,4 @@
-use Rattle.std.proofs.Common.{◌≡◌, ◌+◌, ◌/◌, ◌<◌, ◌≤◌, length, Ok, Err, sym, ap, ◌∙◌, arith}
+use Rattle.std.proofs.Common.{◌+◌, ◌/◌, ◌<◌, ◌≤◌, length, Err, sym, ap, ◌∙◌, arith}
 use Rattle.std.proofs.lemmas.List.{at_drop_all}
 use Rattle.std.proofs.lemmas.Result.{err_from_is_err_and}
 use Rattle.buffers.specs.Records.{records_of}
@@ -12,9 +12,9 @@ returns-in_err-judge_entry c =
     let bs = c.args.bytes.now in
     let i = c.loop-i.i in
     let n = length bs / 18 in
-    let p = err_from_is_err_and c.from-residual.result c.from-residual.ensures.1 in
+    let p = err_from_is_err_and c.from_residual.result c.from_residual.ensures.1 in
     let within : i < length (records_of bs) = omega (arith, length-records n bs) in
-    let w = passed-err _ _ (sym c.in-err-judge-entry.ensures) in
+    let w = passed-err _ _ (sym c.in_err-judge_entry.ensures) in
     let j = judged-wrong (records_of bs) i within _ (part_at n bs i c.loop-i-test.true) _ w in
     let all = whole-refusal bs c.if-bytes-ne0.false c.if-n-gt2000.false in
     p.1 ∙ ap Err p.2 ∙ sym (ap (counted n) (all ∙ sym c.loop-i.invariant ∙ j))
@@ -25,7 +25,7 @@ loop-i-preserved c =
     let i = c.loop-i.i in
     let n = length bs / 18 in
     let within : i < length (records_of bs) = omega (arith, length-records n bs) in
-    let w = passed_ok _ (sym c.in-ok-judge-entry.ensures) in
+    let w = passed_ok _ (sym c.in_ok-judge_entry.ensures) in
     sym (judged-right (records_of bs) i within _ (part_at n bs i c.loop-i-test.true) w) ∙ c.loop-i.invariant
 
 pub returns : goal.returns

@@ -10,6 +10,6 @@ pub returns : goal.returns
 returns c =
     let m = memory c.args.self.now in
     let passed = to_z-of_z w64 c.args.address c.ranges.address in
-    let result : c.drop-block.result ≡ (deleted c.args.address m).0 = c.drop-block.ensures.result ∙ ap (λ a. (deleted a m).0) passed in
-    let after : memory c.drop-block.new.self ≡ (deleted c.args.address m).1 = c.drop-block.ensures.after ∙ ap (λ a. (deleted a m).1) passed in
+    let result : c.drop_block.result ≡ (deleted c.args.address m).0 = c.drop_block.ensures.result ∙ ap (λ a. (deleted a m).0) passed in
+    let after : memory c.drop_block.new.self ≡ (deleted c.args.address m).1 = c.drop_block.ensures.after ∙ ap (λ a. (deleted a m).1) passed in
     record { result = result; after = after; variables = subst (LeavesVariables m) (sym after) (deleted-keeps c.args.address m) }

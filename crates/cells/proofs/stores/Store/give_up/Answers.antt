@@ -9,7 +9,7 @@ returns c =
     let s = c.args.self.now in
     let m = memory s in
     let mark = c.args.mark in
-    let done = c.drop-above.ensures in
+    let done = c.drop_above.ensures in
     record {
       after = done;
       heap = subst (LeavesHeap m) (sym done) (given-up-heap mark m s.most);

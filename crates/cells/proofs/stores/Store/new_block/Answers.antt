@@ -11,14 +11,14 @@ returns g c =
     let s = c.args.self.now in
     let m = memory s in
     let ks = g.L.Layout.kinds c.args.layout.now in
-    let some = c.take-block.ensures.some in
+    let some = c.take_block.ensures.some in
     let long : length (vec_items s.cells) ≡ 2048 = omega (arith, s.cells.ok.0) in
     let starts : length (vec_items s.blocks) ≡ 1024 = omega (arith, s.blocks.ok.0) in
-    let done = c.take-block.ensures in
+    let done = c.take_block.ensures in
     record {
       result = done.result;
       after = done.after;
       lowest = subst (Finds (drop 1024 m.cells) (length ks)) (sym done.result) (newed-finds ks m some long starts);
-      undone = subst (λ r. Restores m r (memory c.take-block.new.self)) (sym done.result) (subst (Restores m (newed ks m).0) (sym done.after) (newed-restores ks m some long starts));
+      undone = subst (λ r. Restores m r (memory c.take_block.new.self)) (sym done.result) (subst (Restores m (newed ks m).0) (sym done.after) (newed-restores ks m some long starts));
       variables = subst (LeavesVariables m) (sym done.after) (newed-keeps ks m);
     }

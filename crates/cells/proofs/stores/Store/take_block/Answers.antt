@@ -1,4 +1,4 @@
-use Rattle.std.proofs.Common.{◌≡◌, ◌+◌, ◌<◌, ◌≤◌, length, drop, set, pos, Some, None, Ok, vec_items, sym, refl, ap, ◌∙◌, arith, w64, to_z}
+use Rattle.std.proofs.Common.{◌≡◌, ◌+◌, ◌<◌, ◌≤◌, length, drop, set, pos, Some, None, Ok, vec_items, sym, ap, ◌∙◌, arith, w64, to_z}
 use Rattle.std.proofs.lemmas.List.{length-take}
 use Rattle.std.proofs.lemmas.Int.{to_z_pos}
 use Rattle.cells.specs.Views.{memory}
@@ -21,7 +21,7 @@ returns-in_default g c =
     let some : 1 ≤ length ks = omega (arith, c.size-size.ensures.value, c.size-size.ensures.some) in
     let few : length ks ≤ 1024 = omega arith in
     let long : length (vec_items s.cells) ≡ 2048 = omega (arith, s.cells.ok.0) in
-    let e = new_by ks (memory s) None _ _ few c.as-slice-table.ensures.value long c.size-size.ensures.value c.in-default.ensures.value in
+    let e = new_by ks (memory s) None _ _ few c.as_slice-table.ensures.value long c.size-size.ensures.value c.in_default.ensures.value in
     record { result = sym (ap (λ p. p.0) e); after = sym (ap (λ p. p.1) e); some = some }
 
 pub returns : goal.returns
@@ -32,8 +32,8 @@ returns g c =
     let i = c.in-Some.i in
     let few : length ks ≤ 1024 = omega arith in
     let long : length (vec_items s.cells) ≡ 2048 = omega (arith, s.cells.ok.0) in
-    let e = new_by ks (memory s) (Some i) _ _ few c.as-slice-table.ensures.value long c.size-size.ensures.value c.in-Some.ensures.value in
-    let table = c.as-slice-table.result.now in
+    let e = new_by ks (memory s) (Some i) _ _ few c.as_slice-table.ensures.value long c.size-size.ensures.value c.in-Some.ensures.value in
+    let table = c.as_slice-table.result.now in
     let low : i < 1024 = omega (arith, c.in-Some.ensures.within, length-take 1024 (drop 1024 table)) in
     let address : to_z w64 (1025 + i) ≡ pos (1025 + i) = to_z_pos w64 (1025 + i) (omega arith) in
     record {

@@ -1,5 +1,5 @@
-use Rattle.std.proofs.Common.{◌≡◌, ◌<◌, ◌≤◌, true, length, vec_items, vec_len, vec_capacity, sym, ap, ◌∙◌, arith, rules}
-use Rattle.shapes.specs.Forms.{kinds_of, measured, refers_below, rows_of}
+use Rattle.std.proofs.Common.{◌≡◌, true, length, vec_items, sym, ap, ◌∙◌, arith, rules}
+use Rattle.shapes.specs.Forms.{kinds_of, refers_below, rows_of}
 use Rattle.shapes.specs.Tables.{shapes_in}
 use Rattle.shapes.proofs.Rowed.{below_more, measured-some, sized-more, sizes-long, small-more}
 use Rattle.shapes.proofs.tables.Shapes.add.Goals as goal
@@ -15,19 +15,14 @@ invariant_of-self c =
     let s = c.args.self.now in
     let n = c.in-Some.size in
     let m = measured-some n (length (kinds_of (rows_of (shapes_in s)) c.args.shape)) c.in-Some.ensures in
-    let shapes = c.push-reserved.ensures.items in
-    let sizes = c.push-reserved-2.ensures.items in
+    let shapes = c.push_reserved.ensures.items in
+    let sizes = c.push_reserved-2.ensures.items in
     let place : c.len-place.result ≡ length (shapes_in s) = omega (arith, s.shapes.ok.0) in
-    let last : refers_below c.args.shape (length (shapes_in s)) ≡ true = sym (c.if-not-refers-below.ensures ∙ ap (refers_below c.args.shape) place) in (
-      search rules,
-      (
-        sized-more (vec_items s.sizes) _ (shapes_in s) _ c.args.shape n shapes sizes s.sized m.0,
-        (
-          small-more (vec_items s.sizes) _ (shapes_in s) _ c.args.shape n shapes sizes s.small m.1,
-          (
-            below_more (vec_items s.sizes) _ (shapes_in s) _ c.args.shape n shapes sizes s.below last,
-            ((search rules, search rules), tt),
-          ),
-        ),
-      ),
-    )
+    let last : refers_below c.args.shape (length (shapes_in s)) ≡ true = sym (c.if-not-refers_below.ensures ∙ ap (refers_below c.args.shape) place) in
+    record {
+      few = search rules;
+      sized = sized-more (vec_items s.sizes) _ (shapes_in s) _ c.args.shape n shapes sizes s.sized m.0;
+      small = small-more (vec_items s.sizes) _ (shapes_in s) _ c.args.shape n shapes sizes s.small m.1;
+      below = below_more (vec_items s.sizes) _ (shapes_in s) _ c.args.shape n shapes sizes s.below last;
+      room = (search rules, search rules);
+    }

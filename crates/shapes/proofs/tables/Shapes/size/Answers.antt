@@ -1,7 +1,6 @@
 use Rattle.std.proofs.Common.{◌≡◌, ◌<◌, ◌≤◌, length, get_or, vec_items, sym, ap, ◌∙◌, arith}
 use Rattle.std.proofs.lemmas.List.{get_or_past, get_or_read}
 use Rattle.shapes.specs.Forms.{rows_of}
-use Rattle.shapes.specs.Tables.{kinds_at}
 use Rattle.shapes.proofs.Rowed.{length_at, sizes-hold}
 use Rattle.shapes.proofs.tables.Shapes.size.Goals as goal
 

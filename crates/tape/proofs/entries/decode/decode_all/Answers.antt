@@ -1,4 +1,4 @@
-use Rattle.std.proofs.Common.{◌≡◌, ◌/◌, ◌<◌, ◌≤◌, map, length, sym, ap, ◌∙◌, subst, arith, rules}
+use Rattle.std.proofs.Common.{◌/◌, ◌<◌, ◌≤◌, map, length, sym, ap, ◌∙◌, subst, arith, rules}
 use Rattle.std.proofs.lemmas.List.{map_push, take_all}
 use Rattle.buffers.specs.Records.{records_of}
 use Rattle.buffers.proofs.Cuts.{length-records, part_at, part_length}
@@ -22,7 +22,7 @@ loop-i-preserved c =
     let i = c.loop-i.i in
     let n = length bs / 18 in
     let within : i < length (records_of bs) = omega (arith, length-records n bs) in
-    let pushed = ap (map exchange) c.push-reserved.ensures.items ∙ map_push exchange _ _ in
+    let pushed = ap (map exchange) c.push_reserved.ensures.items ∙ map_push exchange _ _ in
     (pushed ∙ exchange-more (records_of bs) i within _ (part_at n bs i c.loop-i-test.true) _ _ c.loop-i.invariant.0 c.decode.ensures, search rules, search rules)
 
 pub returns : goal.returns
