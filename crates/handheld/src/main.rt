@@ -8,15 +8,18 @@ use command::words::{Command, command_of};
 use hexadecimal::encode;
 use link::Link;
 use link::visits::read_reply;
+use std::process::ExitCode;
 use std::{env, fs};
 use tape::Tape;
 
-fn main(rt: HostRuntime) -> Result<(), Failure> {
-    let outcome = run(&rt);
-    if let Err(failure) = outcome {
-        let _ = eprintln!(rt; "handheld: {failure}");
+fn main(rt: HostRuntime) -> ExitCode {
+    match run(&rt) {
+        Ok(()) => ExitCode::SUCCESS,
+        Err(failure) => {
+            let _ = eprintln!(rt; "handheld: {failure}");
+            ExitCode::FAILURE
+        }
     }
-    outcome
 }
 
 fn run(rt: &HostRuntime) -> Result<(), Failure> {
