@@ -1,6 +1,6 @@
 -- The car that a bench unit means. Assumes nothing.
 use Rattle.std.specs.Prelude.{◌≡◌, ℕ, ◌+◌, ◌*◌, ◌/◌, ◌%◌, ◌<◌, List, [], ◌∷◌, ◌++◌, length, ◌≢◌, slice_index}
-use Rattle.std.specs.List.{flat_map, AllByRecursion as All}
+use Rattle.std.specs.List.{flat_map, AllByRecursion}
 use Rattle.link.specs.Cars.{Answer, silence, reply, Car}
 use Rattle.bench.specs.Services.{service_of}
 use Rattle.bench.specs.declared.services.Service.{Service}
@@ -33,7 +33,7 @@ bench_car cs (p ∷ ps) q = bench_car (codes_after (service_of p) cs) ps q
 -- what a mechanic may count on, whatever was sent before
 pub record Serves (cs : List ℕ) : Type 0 where
   -- until a request to clear, the codes are listed
-  pub kept : (earlier : List (List ℕ)) → All (λ q. q ≢ 4 ∷ []) earlier → bench_car cs earlier (3 ∷ []) ≡ reply (listed cs)
+  pub kept : (earlier : List (List ℕ)) → AllByRecursion (λ q. q ≢ 4 ∷ []) earlier → bench_car cs earlier (3 ∷ []) ≡ reply (listed cs)
   -- from then on, none
   pub dropped : (before later : List (List ℕ)) → bench_car cs (before ++ (4 ∷ []) ∷ later) (3 ∷ []) ≡ reply (0x43 ∷ 0 ∷ [])
   -- a request to clear is always answered

@@ -1,10 +1,14 @@
 -- What a bench unit answers, over whole visits. Assumes nothing.
-use Rattle.std.specs.Prelude.{◌≡◌, ℕ, zero, suc, ◌<◌, ◌≤◌, false, List, [], ◌∷◌, ◌++◌, length, ◌≢◌, nat_eq, refl}
+use Rattle.std.specs.Prelude.{◌≡◌, ℕ, zero, suc, ◌<◌, ◌≤◌, false, List, [], ◌∷◌, ◌++◌, length, take, ◌≢◌, nat_eq, refl}
 use Rattle.std.proofs.Common.{ap, ◌∙◌, ⊎_elim, arith, lit<, lit≤}
-use Rattle.std.specs.List.{AllByRecursion as All}
+use Rattle.std.specs.List.{AllByRecursion}
+use Rattle.std.proofs.lemmas.List.{length-take}
 use Rattle.std.proofs.lemmas.Bool.{cond-false, ne_eqb, cases_eq}
 use Rattle.buffers.specs.Bytes.{Below, Bytes}
-use Rattle.link.specs.Cars.{silence, reply, Proper, Sound}
+use Rattle.buffers.specs.Held.{held}
+use Rattle.buffers.specs.declared.Buffer.{Buffer}
+use Rattle.buffers.proofs.Bounds.{below-take}
+use Rattle.link.specs.Cars.{silence, reply, Proper, Sound, Short}
 use Rattle.bench.specs.Services.{by_code, service_of}
 use Rattle.bench.specs.Cars.{Serves, answer_to, bench_car, codes_after, listed}
 use Rattle.bench.specs.declared.services.Service.{Service}
@@ -44,7 +48,7 @@ clears-only (b ∷ (c ∷ q)) e =
     let z : ◌≡◌ {A = ℕ} 0 1 = cc in
     absurd (omega arith)
 
-kept-list : (cs : List ℕ) (earlier : List (List ℕ)) → All (λ q. q ≢ 4 ∷ []) earlier → bench_car cs earlier (3 ∷ []) ≡ reply (listed cs)
+kept-list : (cs : List ℕ) (earlier : List (List ℕ)) → AllByRecursion (λ q. q ≢ 4 ∷ []) earlier → bench_car cs earlier (3 ∷ []) ≡ reply (listed cs)
 kept-list cs [] a = refl
 kept-list cs (p ∷ ps) a = ap (λ l. bench_car l ps (3 ∷ [])) (stay (service_of p) cs (λ e. a.0 (clears-only p e))) ∙ kept-list cs ps a.1
 
@@ -99,3 +103,10 @@ after-codes Unknown cs h = h
 pub bench-sound : (cs : List ℕ) → Codes cs → Sound (bench_car cs)
 bench-sound cs h [] q = answer-proper (service_of q) cs h
 bench-sound cs h (p ∷ ps) q = bench-sound (codes_after (service_of p) cs) (after-codes (service_of p) cs h) ps q
+
+-- of a unit, by the front of its row
+pub row-sound : (n : ℕ) (row : List ℕ) → n ≤ 30 → Below 65536 row → Sound (bench_car (take n row))
+row-sound n row few fits = bench-sound (take n row) (below-take 65536 (lit< tt) n row fits, omega (arith, length-take n row))
+
+pub buffer-short : (b : Buffer 64) → Short (held b)
+buffer-short b = (omega (arith, length-take b.len b.bytes), below-take 256 (lit< tt) b.len b.bytes b.fits)

@@ -3,10 +3,7 @@ ghost use Rattle.buffers.specs.Held.{held as held_by};
 ghost use Rattle.bench.specs.Cars.{Serves, bench_car, listed};
 ghost use Rattle.bench.specs.Standings.{bench_of};
 ghost use Rattle.bench.specs.Views.{standing, view};
-ghost use Rattle.std.proofs.Common.{arith, lit<};
-ghost use Rattle.std.proofs.lemmas.List.{length-take};
-ghost use Rattle.buffers.proofs.Bounds.{below-take};
-ghost use Rattle.bench.specs.Served.{bench-sound};
+ghost use Rattle.bench.specs.Served.{row-sound, buffer-short};
 
 use crate::BenchUnit;
 use crate::services::{Service, service_of};
@@ -55,9 +52,9 @@ impl Link for BenchUnit {
 
     ghost present = { λ u. (standing u).shown };
 
-    ghost sound = { λ x. bench-sound (standing x).codes (below-take 65536 (lit< tt) x.held x.codes x.fits, omega (arith, length-take x.held x.codes)) };
+    ghost sound = { λ x. row-sound x.held x.codes x.few x.fits };
 
-    ghost short = { λ x. (omega (arith, length-take x.present.len x.present.bytes), below-take 256 (lit< tt) x.present.len x.present.bytes x.present.fits) };
+    ghost short = { λ x. buffer-short x.present };
 
     fn send(&mut self, request: &[u8]) -> bool {
         match service_of(request) {

@@ -1,7 +1,7 @@
 -- The cars of tapes are sound. Assumes nothing.
 use Rattle.std.specs.Prelude.{ℕ, List, [], ◌∷◌, map}
 use Rattle.std.proofs.Common.{arith, lit<}
-use Rattle.std.specs.List.{AllByRecursion as All}
+use Rattle.std.specs.List.{AllByRecursion}
 use Rattle.std.specs.Str.{bytes_eq}
 use Rattle.std.proofs.lemmas.List.{length-take}
 use Rattle.std.proofs.lemmas.Bool.{cond_both}
@@ -17,22 +17,22 @@ use Rattle.tape.specs.declared.entries.Entry.{Entry}
 abbrev Good : Exchange → Type 0
 Good e = Proper (reply e.given)
 
-answer-proper : (es : List Exchange) → All Good es → (q : List ℕ) → Proper (answer_of es q)
+answer-proper : (es : List Exchange) → AllByRecursion Good es → (q : List ℕ) → Proper (answer_of es q)
 answer-proper [] a q = tt
 answer-proper (e ∷ es) a q = cond_both (bytes_eq e.asked q) (reply e.given) silence Proper (λ _. a.0) (λ _. tt)
 
-moved-good : (es : List Exchange) → All Good es → (q : List ℕ) → All Good (moved es q)
+moved-good : (es : List Exchange) → AllByRecursion Good es → (q : List ℕ) → AllByRecursion Good (moved es q)
 moved-good [] a q = tt
-moved-good (e ∷ es) a q = cond_both (bytes_eq e.asked q) es (e ∷ es) (All Good) (λ _. a.1) (λ _. a)
+moved-good (e ∷ es) a q = cond_both (bytes_eq e.asked q) es (e ∷ es) (AllByRecursion Good) (λ _. a.1) (λ _. a)
 
-tape-sound : (es : List Exchange) → All Good es → Sound (tape_car es)
+tape-sound : (es : List Exchange) → AllByRecursion Good es → Sound (tape_car es)
 tape-sound es a [] q = answer-proper es a q
 tape-sound es a (p ∷ ps) q = tape-sound (moved es p) (moved-good es a p) ps q
 
 pub buffer-short : (b : Buffer 7) → Short (held b)
 buffer-short b = (omega (arith, length-take b.len b.bytes), below-take 256 (lit< tt) b.len b.bytes b.fits)
 
-all-good : (es : List Entry) → All Good (map exchange es)
+all-good : (es : List Entry) → AllByRecursion Good (map exchange es)
 all-good [] = tt
 all-good (e ∷ es) = ((e.answered, (buffer-short e.reply).0, (buffer-short e.reply).1), all-good es)
 
