@@ -3,7 +3,7 @@ use Rattle.std.specs.List.{flat_map}
 use Rattle.std.proofs.lemmas.List.{get_or-take, length-take, length-take-le, take_all}
 use Rattle.buffers.specs.Bytes.{pushed}
 use Rattle.bench.specs.Cars.{two_bytes}
-use Rattle.bench.specs.Codes.{written-more}
+use Rattle.bench.proofs.Codes.{written-more}
 use Rattle.bench.proofs.BenchUnit.list.Goals as goal
 
 pub loop-i-init : goal.loop-i-init

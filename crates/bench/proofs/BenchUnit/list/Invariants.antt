@@ -1,6 +1,6 @@
 use Rattle.std.proofs.Common.{take}
 use Rattle.buffers.specs.Held.{held}
-use Rattle.bench.specs.Codes.{Written}
+use Rattle.bench.proofs.Codes.{Written}
 use Rattle.bench.proofs.BenchUnit.list.Given as goal
 
 abbrev pub invariant-loop-i : goal.invariant-loop-i

@@ -1,5 +1,5 @@
 use Rattle.std.proofs.Common.{◌≡◌}
-use Rattle.bench.specs.Codes.{row_room, row_fits, row-codes, made-bench}
+use Rattle.bench.proofs.Codes.{row_room, row_fits, row-codes, made-bench}
 use Rattle.bench.specs.Served.{bench-serves}
 use Rattle.bench.proofs.BenchUnit.new.Goals as goal
 
