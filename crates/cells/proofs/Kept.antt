@@ -119,13 +119,13 @@ as-kind-same (Some k) v c e =
 written-kind : (v : Value) (c : Cell) → SameKind c (written_by v c)
 written-kind v c = as-kind-same (kind_of v) v c refl
 
-kind_at : (cs : List Cell) (i : ℕ) → get_or (map kind_in cs) i None ≡ kind_in (get_or cs i cell.Dead)
-kind_at [] i = refl
-kind_at (c ∷ cs) zero = refl
-kind_at (c ∷ cs) (suc i) = kind_at cs i
+get_or-map-kind_in : (cs : List Cell) (i : ℕ) → get_or (map kind_in cs) i None ≡ kind_in (get_or cs i cell.Dead)
+get_or-map-kind_in [] i = refl
+get_or-map-kind_in (c ∷ cs) zero = refl
+get_or-map-kind_in (c ∷ cs) (suc i) = get_or-map-kind_in cs i
 
 set-same-kind : (cs : List Cell) (i : ℕ) (c : Cell) → kind_in c ≡ kind_in (get_or cs i cell.Dead) → map kind_in (set cs i c) ≡ map kind_in cs
-set-same-kind cs i c e = map-set kind_in cs i c ∙ ap (set (map kind_in cs) i) (e ∙ sym (kind_at cs i)) ∙ set-get_or (map kind_in cs) i None
+set-same-kind cs i c e = map-set kind_in cs i c ∙ ap (set (map kind_in cs) i) (e ∙ sym (get_or-map-kind_in cs i)) ∙ set-get_or (map kind_in cs) i None
 
 place-keeps : (o : Option ℕ) (r : Result Cell Stop) (m : Memory) → SameKind (at o m.cells) r → KeepsKinds m (place o r m).1
 place-keeps None (Ok c) m s = refl

@@ -16,8 +16,8 @@ use Rattle.tape.specs.Fills.{OnlyFill}
 
 -- the first n of m bytes from a on, where two entries agree
 module _ (e f : List ℕ) (long : length e ≡ length f) (a m n : ℕ) (same : (j : ℕ) → j < n → j < m → get_or e (a + j) 0 ≡ get_or f (a + j) 0) where
-  byte_of : (l : List ℕ) (j : ℕ) → j < n → j < m → get_or (take n (take m (drop a l))) j 0 ≡ get_or l (a + j) 0
-  byte_of l j p q = get_or-take n (take m (drop a l)) j 0 p ∙ get_or-take m (drop a l) j 0 q ∙ get_or-drop a l j 0
+  get_or-part : (l : List ℕ) (j : ℕ) → j < n → j < m → get_or (take n (take m (drop a l))) j 0 ≡ get_or l (a + j) 0
+  get_or-part l j p q = get_or-take n (take m (drop a l)) j 0 p ∙ get_or-take m (drop a l) j 0 q ∙ get_or-drop a l j 0
 
   parts-agree : take n (take m (drop a e)) ≡ take n (take m (drop a f))
   parts-agree =
@@ -26,7 +26,7 @@ module _ (e f : List ℕ) (long : length e ≡ length f) (a m n : ℕ) (same : (
       let s : j < length (take n (take m (drop a e))) = h in
       let p : j < n = omega (arith, length-take n (take m (drop a e))) in
       let q : j < m = omega (arith, length-take n (take m (drop a e)), length-take m (drop a e)) in
-      byte_of e j p q ∙ same j p q ∙ sym (byte_of f j p q))
+      get_or-part e j p q ∙ same j p q ∙ sym (get_or-part f j p q))
 
 -- two entries that differ only in fill are judged alike, and say the same
 module _ (e f : List ℕ) (le : length e ≡ 18) (lf : length f ≡ 18) (same : (i : ℕ) → i < 18 → i < 11 + reply_count e → get_or e i 0 ≡ get_or f i 0) where

@@ -32,22 +32,22 @@ module _ (bs : List ℕ) where
       let e : k + 1 + p ≡ k + suc p = omega arith in
       get_or-fill (k + 1) xs p (omega arith) ∙ ap (λ n. inverted_byte bs n (get_or xs p 0)) e
 
-  byte_at : (l : List ℕ) (k i : ℕ) → i < 18 → get_or (record_at l k) i 0 ≡ get_or l (18 * (k - 1) + i) 0
-  byte_at l k i h = get_or-take 18 (drop (18 * (k - 1)) l) i 0 h ∙ get_or-drop (18 * (k - 1)) l i 0
+  get_or-in-record : (l : List ℕ) (k i : ℕ) → i < 18 → get_or (record_at l k) i 0 ≡ get_or l (18 * (k - 1) + i) 0
+  get_or-in-record l k i h = get_or-take 18 (drop (18 * (k - 1)) l) i 0 h ∙ get_or-drop (18 * (k - 1)) l i 0
 
   kept : (k i : ℕ) → i < 18 → i < 11 + reply_count (record_at bs k) → is_fill bs (18 * (k - 1) + i) ≡ false
   kept k i h c =
       let p = 18 * (k - 1) + i in
       let place : p % 18 ≡ i = omega arith in
       let frame : 18 * (p / 18) + 10 ≡ 18 * (k - 1) + 10 = omega arith in
-      let count : get_or bs (18 * (p / 18) + 10) 0 ≡ reply_count (record_at bs k) = ap (λ n. get_or bs n 0) frame ∙ sym (byte_at bs k 10 (lit< tt)) in
+      let count : get_or bs (18 * (p / 18) + 10) 0 ≡ reply_count (record_at bs k) = ap (λ n. get_or bs n 0) frame ∙ sym (get_or-in-record bs k 10 (lit< tt)) in
       lt-leb (11 + get_or bs (18 * (p / 18) + 10) 0) (p % 18) (omega (arith, place, count, c))
 
-  same_byte : (k i : ℕ) → 1 ≤ k → k ≤ length bs / 18 → i < 18 → i < 11 + reply_count (record_at bs k) → get_or (record_at bs k) i 0 ≡ get_or (record_at (inverted bs) k) i 0
-  same_byte k i some within h c =
+  kept-same : (k i : ℕ) → 1 ≤ k → k ≤ length bs / 18 → i < 18 → i < 11 + reply_count (record_at bs k) → get_or (record_at bs k) i 0 ≡ get_or (record_at (inverted bs) k) i 0
+  kept-same k i some within h c =
       let p = 18 * (k - 1) + i in
       let inside : p < length bs = omega arith in
-      byte_at bs k i h ∙ sym (get_or-fill 0 bs p inside ∙ ap (λ n. inverted_byte bs n (get_or bs p 0)) (zero-add p) ∙ cond-false _ _ _ (kept k i h c)) ∙ sym (byte_at (inverted bs) k i h)
+      get_or-in-record bs k i h ∙ sym (get_or-fill 0 bs p inside ∙ ap (λ n. inverted_byte bs n (get_or bs p 0)) (zero-add p) ∙ cond-false _ _ _ (kept k i h c)) ∙ sym (get_or-in-record (inverted bs) k i h)
 
   pub inverted-only : OnlyFill bs (inverted bs)
-  inverted-only = record { size = sym (length-fill 0 bs); bytes = same_byte }
+  inverted-only = record { size = sym (length-fill 0 bs); bytes = kept-same }
