@@ -3,7 +3,7 @@ ghost use Rattle.buffers.specs.Held.{held as held_by};
 ghost use Rattle.bench.specs.Cars.{Serves, bench_car, listed};
 ghost use Rattle.bench.specs.Standings.{bench_of};
 ghost use Rattle.bench.specs.Views.{standing, view};
-ghost use Rattle.bench.specs.Served.{row-sound, buffer-short};
+ghost use Rattle.bench.specs.Served.{row_sound, buffer_short};
 
 use crate::BenchUnit;
 use crate::services::{Service, service_of};
@@ -52,9 +52,9 @@ impl Link for BenchUnit {
 
     ghost present = { λ u. (standing u).shown };
 
-    ghost sound = { λ x. row-sound x.held x.codes x.few x.fits };
+    ghost sound = { λ x. row_sound x.held x.codes x.few x.fits };
 
-    ghost short = { λ x. buffer-short x.present };
+    ghost short = { λ x. buffer_short x.present };
 
     fn send(&mut self, request: &[u8]) -> bool {
         match service_of(request) {

@@ -5,33 +5,33 @@ use Rattle.std.proofs.lemmas.Bool.{cond-true, cond-false, lt-ltb, le-ltb, cases_
 use Rattle.buffers.specs.Bytes.{Below, byte_at, pushed}
 
 module _ (m : ℕ) (some : 0 < m) where
-  pub below-take : (n : ℕ) (xs : List ℕ) → Below m xs → Below m (take n xs)
-  below-take zero xs b k = some
-  below-take (suc n) [] b k = some
-  below-take (suc n) (x ∷ xs) b zero = b 0
-  below-take (suc n) (x ∷ xs) b (suc k) = below-take n xs (λ j. b (suc j)) k
+  pub Below-take : (n : ℕ) (xs : List ℕ) → Below m xs → Below m (take n xs)
+  Below-take zero xs b k = some
+  Below-take (suc n) [] b k = some
+  Below-take (suc n) (x ∷ xs) b zero = b 0
+  Below-take (suc n) (x ∷ xs) b (suc k) = Below-take n xs (λ j. b (suc j)) k
 
-  pub below-drop : (n : ℕ) (xs : List ℕ) → Below m xs → Below m (drop n xs)
-  below-drop zero xs b k = b k
-  below-drop (suc n) [] b k = some
-  below-drop (suc n) (x ∷ xs) b k = below-drop n xs (λ j. b (suc j)) k
+  pub Below-drop : (n : ℕ) (xs : List ℕ) → Below m xs → Below m (drop n xs)
+  Below-drop zero xs b k = b k
+  Below-drop (suc n) [] b k = some
+  Below-drop (suc n) (x ∷ xs) b k = Below-drop n xs (λ j. b (suc j)) k
 
-  pub below-append : (xs ys : List ℕ) → Below m xs → Below m ys → Below m (xs ++ ys)
-  below-append [] ys a b k = b k
-  below-append (x ∷ xs) ys a b zero = a 0
-  below-append (x ∷ xs) ys a b (suc k) = below-append xs ys (λ j. a (suc j)) b k
+  pub Below-append : (xs ys : List ℕ) → Below m xs → Below m ys → Below m (xs ++ ys)
+  Below-append [] ys a b k = b k
+  Below-append (x ∷ xs) ys a b zero = a 0
+  Below-append (x ∷ xs) ys a b (suc k) = Below-append xs ys (λ j. a (suc j)) b k
 
-  pub below_set : (xs : List ℕ) (i x : ℕ) → Below m xs → x < m → Below m (set xs i x)
-  below_set [] i x b h k = some
-  below_set (y ∷ xs) zero x b h zero = h
-  below_set (y ∷ xs) zero x b h (suc k) = b (suc k)
-  below_set (y ∷ xs) (suc i) x b h zero = b 0
-  below_set (y ∷ xs) (suc i) x b h (suc k) = below_set xs i x (λ j. b (suc j)) h k
+  pub Below-set : (xs : List ℕ) (i x : ℕ) → Below m xs → x < m → Below m (set xs i x)
+  Below-set [] i x b h k = some
+  Below-set (y ∷ xs) zero x b h zero = h
+  Below-set (y ∷ xs) zero x b h (suc k) = b (suc k)
+  Below-set (y ∷ xs) (suc i) x b h zero = b 0
+  Below-set (y ∷ xs) (suc i) x b h (suc k) = Below-set xs i x (λ j. b (suc j)) h k
 
-  pub below-zeros : (n : ℕ) → Below m (replicate n 0)
-  below-zeros zero k = some
-  below-zeros (suc n) zero = some
-  below-zeros (suc n) (suc k) = below-zeros n k
+  pub Below-replicate : (n : ℕ) → Below m (replicate n 0)
+  Below-replicate zero k = some
+  Below-replicate (suc n) zero = some
+  Below-replicate (suc n) (suc k) = Below-replicate n k
 
 -- byte i of the first n
 pub byte_at-take : (bs : List ℕ) (n i : ℕ) → n ≤ length bs → i < n → Some (get_or bs i 0) ≡ byte_at (take n bs) i
@@ -52,5 +52,5 @@ pushed-take n ys y =
     cond-false _ _ _ (le-ltb _ _ none) ∙ sym (take-append-le n ys (y ∷ []) full))
     (cases_lt (length ys) n)
 
-pub prefix-more : (n : ℕ) (xs : List ℕ) (i : ℕ) → i < length xs → pushed n (take n (take i xs)) (get_or xs i 0) ≡ take n (take (i + 1) xs)
-prefix-more n xs i h = pushed-take n (take i xs) (get_or xs i 0) ∙ ap (take n) (sym (take_more xs i 0 h))
+pub prefix_more : (n : ℕ) (xs : List ℕ) (i : ℕ) → i < length xs → pushed n (take n (take i xs)) (get_or xs i 0) ≡ take n (take (i + 1) xs)
+prefix_more n xs i h = pushed-take n (take i xs) (get_or xs i 0) ∙ ap (take n) (sym (take_more xs i 0 h))

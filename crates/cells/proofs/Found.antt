@@ -9,102 +9,102 @@ use Rattle.cells.specs.Rows.{painted}
 use Rattle.cells.specs.declared.cell.Cell.{Cell}
 use Rattle.cells.specs.declared.cell.Cell.TheVariants as cell
 
-dead-is : (c : Cell) → is_dead c ≡ true → c ≡ cell.Dead
-dead-is cell.Dead e = refl
-dead-is (cell.Unwritten k) e = let z : ◌≡◌ {A = ℕ} 0 1 = cc in absurd (omega arith)
-dead-is (cell.Char x) e = let z : ◌≡◌ {A = ℕ} 0 1 = cc in absurd (omega arith)
-dead-is (cell.Int n) e = let z : ◌≡◌ {A = ℕ} 0 1 = cc in absurd (omega arith)
-dead-is (cell.Bool b) e = let z : ◌≡◌ {A = ℕ} 0 1 = cc in absurd (omega arith)
-dead-is (cell.Pointer n) e = let z : ◌≡◌ {A = ℕ} 0 1 = cc in absurd (omega arith)
+dead_is : (c : Cell) → is_dead c ≡ true → c ≡ cell.Dead
+dead_is cell.Dead e = refl
+dead_is (cell.Unwritten k) e = let z : ◌≡◌ {A = ℕ} 0 1 = cc in absurd (omega arith)
+dead_is (cell.Char x) e = let z : ◌≡◌ {A = ℕ} 0 1 = cc in absurd (omega arith)
+dead_is (cell.Int n) e = let z : ◌≡◌ {A = ℕ} 0 1 = cc in absurd (omega arith)
+dead_is (cell.Bool b) e = let z : ◌≡◌ {A = ℕ} 0 1 = cc in absurd (omega arith)
+dead_is (cell.Pointer n) e = let z : ◌≡◌ {A = ℕ} 0 1 = cc in absurd (omega arith)
 
 -- a dead cell is one of the table
-dead-within : (cs : List Cell) (i : ℕ) → dead_at cs i ≡ true → i < length cs
-dead-within cs i e =
+dead_within : (cs : List Cell) (i : ℕ) → dead_at cs i ≡ true → i < length cs
+dead_within cs i e =
     ⊎_elim (λ h. h)
     (λ past. let gone : dead_at cs i ≡ false = ap is_dead (get_or_past cs i (cell.Unwritten Char) past) in absurd (both_ways (dead_at cs i) gone e))
     (cases_lt i (length cs))
 
-dead-there : (cs : List Cell) (i : ℕ) → dead_at cs i ≡ true → get_or cs i cell.Dead ≡ cell.Dead
-dead-there cs i e = get_or_default cs i cell.Dead (cell.Unwritten Char) (dead-within cs i e) ∙ dead-is _ e
+dead_there : (cs : List Cell) (i : ℕ) → dead_at cs i ≡ true → get_or cs i cell.Dead ≡ cell.Dead
+dead_there cs i e = get_or_default cs i cell.Dead (cell.Unwritten Char) (dead_within cs i e) ∙ dead_is _ e
 
-there-dead : (cs : List Cell) (i : ℕ) → i < length cs → get_or cs i cell.Dead ≡ cell.Dead → dead_at cs i ≡ true
-there-dead cs i h e = ap is_dead (get_or_default cs i (cell.Unwritten Char) cell.Dead h ∙ e)
+there_dead : (cs : List Cell) (i : ℕ) → i < length cs → get_or cs i cell.Dead ≡ cell.Dead → dead_at cs i ≡ true
+there_dead cs i h e = ap is_dead (get_or_default cs i (cell.Unwritten Char) cell.Dead h ∙ e)
 
 -- a row by its test, and by its cells
-row-cells : (cs : List Cell) (i n : ℕ) → i ≤ length cs → row cs i n ≡ true → DeadRow cs i n
+row_cells : (cs : List Cell) (i n : ℕ) → i ≤ length cs → row cs i n ≡ true → DeadRow cs i n
 unfolding row
-row-cells cs i zero h e = (omega arith, λ k l. absurd (omega arith))
-row-cells cs i (suc n) h e =
+row_cells cs i zero h e = (omega arith, λ k l. absurd (omega arith))
+row_cells cs i (suc n) h e =
     let p = and_parts _ _ e in
-    let within = dead-within cs i p.0 in
-    let rest = row-cells cs (suc i) n (omega arith) p.1 in
+    let within = dead_within cs i p.0 in
+    let rest = row_cells cs (suc i) n (omega arith) p.1 in
     (omega (arith, rest.0), cells_of rest)
   where
     first : get_or cs (i + 0) cell.Dead ≡ cell.Dead
-    first = let z : i + 0 ≡ i = omega arith in ap (λ j. get_or cs j cell.Dead) z ∙ dead-there cs i (and_parts _ _ e).0
+    first = let z : i + 0 ≡ i = omega arith in ap (λ j. get_or cs j cell.Dead) z ∙ dead_there cs i (and_parts _ _ e).0
 
     cells_of : DeadRow cs (suc i) n → (k : ℕ) → k < suc n → get_or cs (i + k) cell.Dead ≡ cell.Dead
     cells_of r zero l = first
     cells_of r (suc k) l = let z : i + suc k ≡ suc i + k = omega arith in ap (λ j. get_or cs j cell.Dead) z ∙ r.1 k (omega arith)
 
-cells-row : (cs : List Cell) (i n : ℕ) → DeadRow cs i n → row cs i n ≡ true
+cells_row : (cs : List Cell) (i n : ℕ) → DeadRow cs i n → row cs i n ≡ true
 unfolding row
-cells-row cs i zero r = refl
-cells-row cs i (suc n) r =
+cells_row cs i zero r = refl
+cells_row cs i (suc n) r =
     let z : i + 0 ≡ i = omega arith in
-    let here : dead_at cs i ≡ true = there-dead cs i (omega (arith, r.0)) (ap (λ j. get_or cs j cell.Dead) (sym z) ∙ r.1 0 (omega arith)) in
+    let here : dead_at cs i ≡ true = there_dead cs i (omega (arith, r.0)) (ap (λ j. get_or cs j cell.Dead) (sym z) ∙ r.1 0 (omega arith)) in
     let rest : DeadRow cs (suc i) n = (omega (arith, r.0), λ k l. let e : suc i + k ≡ i + suc k = omega arith in ap (λ j. get_or cs j cell.Dead) e ∙ r.1 (suc k) (omega arith)) in
-    and_from _ _ here (cells-row cs (suc i) n rest)
+    and_from _ _ here (cells_row cs (suc i) n rest)
 
 -- the search from place i on, over the d places that are left
 abbrev LowestFrom : List Cell → ℕ → ℕ → ℕ → Option ℕ → Type 0
 LowestFrom cs n i d (Some k) = (i ≤ k) × (k < i + d) × DeadRow cs k n × ((j : ℕ) → i ≤ j → j < k → DeadRow cs j n → ⊥)
 LowestFrom cs n i d None = (j : ℕ) → i ≤ j → j < i + d → DeadRow cs j n → ⊥
 
-from-later : (cs : List Cell) (n i d : ℕ) (o : Option ℕ) → (DeadRow cs i n → ⊥) → LowestFrom cs n (suc i) d o → LowestFrom cs n i (suc d) o
-from-later cs n i d (Some k) bad l = (
+from_later : (cs : List Cell) (n i d : ℕ) (o : Option ℕ) → (DeadRow cs i n → ⊥) → LowestFrom cs n (suc i) d o → LowestFrom cs n i (suc d) o
+from_later cs n i d (Some k) bad l = (
   omega (arith, l.0),
   omega (arith, l.1),
   l.2,
   λ j low high r. ⊎_elim (λ lt. l.3 j lt high r) (λ le. let e : j ≡ i = omega arith in bad (subst (λ x. DeadRow cs x n) e r)) (cases_lt i j),
 )
-from-later cs n i d None bad l =
+from_later cs n i d None bad l =
     λ j low high r. ⊎_elim (λ lt. l j lt (omega arith) r) (λ le. let e : j ≡ i = omega arith in bad (subst (λ x. DeadRow cs x n) e r)) (cases_lt i j)
 
-from-test : (cs : List Cell) (n i d : ℕ) (b : Bool) (o : Option ℕ) → i ≤ length cs → row cs i n ≡ b → LowestFrom cs n (suc i) d o → LowestFrom cs n i (suc d) (cond b (Some i) o)
-from-test cs n i d true o h e l = (omega arith, omega arith, row-cells cs i n h e, λ j low high r. absurd (omega arith))
-from-test cs n i d false o h e l = from-later cs n i d o (λ r. both_ways (row cs i n) e (cells-row cs i n r)) l
+from_test : (cs : List Cell) (n i d : ℕ) (b : Bool) (o : Option ℕ) → i ≤ length cs → row cs i n ≡ b → LowestFrom cs n (suc i) d o → LowestFrom cs n i (suc d) (cond b (Some i) o)
+from_test cs n i d true o h e l = (omega arith, omega arith, row_cells cs i n h e, λ j low high r. absurd (omega arith))
+from_test cs n i d false o h e l = from_later cs n i d o (λ r. both_ways (row cs i n) e (cells_row cs i n r)) l
 
-lowest-from : (cs : List Cell) (n i d : ℕ) → i + d ≤ length cs → LowestFrom cs n i d (first_from cs n i d)
+lowest_from : (cs : List Cell) (n i d : ℕ) → i + d ≤ length cs → LowestFrom cs n i d (first_from cs n i d)
 unfolding first_from
-lowest-from cs n i zero h = λ j low high r. absurd (omega arith)
-lowest-from cs n i (suc d) h = from-test cs n i d (row cs i n) (first_from cs n (suc i) d) (omega arith) refl (lowest-from cs n (suc i) d (omega arith))
+lowest_from cs n i zero h = λ j low high r. absurd (omega arith)
+lowest_from cs n i (suc d) h = from_test cs n i d (row cs i n) (first_from cs n (suc i) d) (omega arith) refl (lowest_from cs n (suc i) d (omega arith))
 
-lowest-of : (cs : List Cell) (n : ℕ) (o : Option ℕ) → 1 ≤ n → LowestFrom cs n 0 (length cs) o → Lowest cs n o
-lowest-of cs n (Some k) some l = (l.2, λ j high r. l.3 j (omega arith) high r)
-lowest-of cs n None some l = λ j r. l j (omega arith) (omega (arith, r.0)) r
+lowest_of : (cs : List Cell) (n : ℕ) (o : Option ℕ) → 1 ≤ n → LowestFrom cs n 0 (length cs) o → Lowest cs n o
+lowest_of cs n (Some k) some l = (l.2, λ j high r. l.3 j (omega arith) high r)
+lowest_of cs n None some l = λ j r. l j (omega arith) (omega (arith, r.0)) r
 
-pub first-lowest : (cs : List Cell) (n : ℕ) → 1 ≤ n → Lowest cs n (first_row cs n)
+pub first_lowest : (cs : List Cell) (n : ℕ) → 1 ≤ n → Lowest cs n (first_row cs n)
 unfolding first_row
-first-lowest cs n some = lowest-of cs n (first_from cs n 0 (length cs)) some (lowest-from cs n 0 (length cs) (omega arith))
+first_lowest cs n some = lowest_of cs n (first_from cs n 0 (length cs)) some (lowest_from cs n 0 (length cs) (omega arith))
 
 -- a row put over another of the same length, and one of dead cells over dead cells
 set-painted : (cs : List Cell) (i j : ℕ) (y : Cell) (row : List Cell) → j < i → set (painted cs i row) j y ≡ painted (set cs j y) i row
 set-painted cs i j y [] h = refl
 set-painted cs i j y (x ∷ xs) h = set-painted (set cs i x) (i + 1) j y xs (omega arith) ∙ ap (λ l. painted l (i + 1) xs) (set_comm cs i j x y (λ e. omega arith))
 
-pub painted-over : (cs : List Cell) (i : ℕ) (xs ys : List Cell) → length xs ≡ length ys → painted (painted cs i xs) i ys ≡ painted cs i ys
-painted-over cs i [] [] l = refl
-painted-over cs i [] (y ∷ ys) l = absurd (omega arith)
-painted-over cs i (x ∷ xs) [] l = absurd (omega arith)
-painted-over cs i (x ∷ xs) (y ∷ ys) l =
+pub painted_over : (cs : List Cell) (i : ℕ) (xs ys : List Cell) → length xs ≡ length ys → painted (painted cs i xs) i ys ≡ painted cs i ys
+painted_over cs i [] [] l = refl
+painted_over cs i [] (y ∷ ys) l = absurd (omega arith)
+painted_over cs i (x ∷ xs) [] l = absurd (omega arith)
+painted_over cs i (x ∷ xs) (y ∷ ys) l =
     ap (λ t. painted t (i + 1) ys) (set-painted (set cs i x) (i + 1) i y xs (omega arith) ∙ ap (λ t. painted t (i + 1) xs) (set-set cs i x y))
-    ∙ painted-over (set cs i y) (i + 1) xs ys (omega arith)
+    ∙ painted_over (set cs i y) (i + 1) xs ys (omega arith)
 
-pub dead-over : (cs : List Cell) (i n : ℕ) → ((k : ℕ) → k < n → get_or cs (i + k) cell.Dead ≡ cell.Dead) → painted cs i (replicate n cell.Dead) ≡ cs
-dead-over cs i zero d = refl
-dead-over cs i (suc n) d =
+pub dead_over : (cs : List Cell) (i n : ℕ) → ((k : ℕ) → k < n → get_or cs (i + k) cell.Dead ≡ cell.Dead) → painted cs i (replicate n cell.Dead) ≡ cs
+dead_over cs i zero d = refl
+dead_over cs i (suc n) d =
     let z : i + 0 ≡ i = omega arith in
     let here : set cs i cell.Dead ≡ cs = ap (set cs i) (sym (ap (λ j. get_or cs j cell.Dead) (sym z) ∙ d 0 (omega arith))) ∙ set-get_or cs i cell.Dead in
     ap (λ l. painted l (i + 1) (replicate n cell.Dead)) here
-    ∙ dead-over cs (i + 1) n (λ k h. let e : i + 1 + k ≡ i + suc k = omega arith in ap (λ j. get_or cs j cell.Dead) e ∙ d (suc k) (omega arith))
+    ∙ dead_over cs (i + 1) n (λ k h. let e : i + 1 + k ≡ i + suc k = omega arith in ap (λ j. get_or cs j cell.Dead) e ∙ d (suc k) (omega arith))

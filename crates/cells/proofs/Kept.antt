@@ -31,50 +31,50 @@ pub record Above (m m' : Memory) : Type 0 where
   pub heap : LeavesHeap m m'
   pub first : KeepsFirst m.used m m'
 
-above-keeps : (row : List Cell) (m : Memory) → Above m (above row m).1
-above-keeps row m =
+above_keeps : (row : List Cell) (m : Memory) → Above m (above row m).1
+above_keeps row m =
     cond_both (leb (m.used + length row) 1024) _ _ (λ (p : After ℤ). Above m p.1)
     (λ e. record { heap = drop-painted 1024 m.cells m.used row (leb-true _ _ e); first = take-painted m.used m.cells m.used row (omega arith) })
     (λ e. record { heap = refl; first = refl })
 
-pub laid-keeps : (ks : List Kind) (m : Memory) → Above m (laid ks m).1
-laid-keeps ks m = above-keeps (fresh ks) m
+pub laid_keeps : (ks : List Kind) (m : Memory) → Above m (laid ks m).1
+laid_keeps ks m = above_keeps (fresh ks) m
 
-laid-as-keeps : (o : Option Kind) (v : Value) (m : Memory) → Above m (laid_as o v m).1
-laid-as-keeps None v m = record { heap = refl; first = refl }
-laid-as-keeps (Some k) v m = above-keeps (cell_of v ∷ []) m
+laid_as_keeps : (o : Option Kind) (v : Value) (m : Memory) → Above m (laid_as o v m).1
+laid_as_keeps None v m = record { heap = refl; first = refl }
+laid_as_keeps (Some k) v m = above_keeps (cell_of v ∷ []) m
 
-pub laid-value-keeps : (v : Value) (m : Memory) → Above m (laid_value v m).1
-laid-value-keeps v m = laid-as-keeps (kind_of v) v m
+pub laid_value_keeps : (v : Value) (m : Memory) → Above m (laid_value v m).1
+laid_value_keeps v m = laid_as_keeps (kind_of v) v m
 
-pub given-up-heap : (mark : ℕ) (m : Memory) → m.used ≤ 1024 → LeavesHeap m (given_up mark m)
-given-up-heap mark m few =
+pub given_up_heap : (mark : ℕ) (m : Memory) → m.used ≤ 1024 → LeavesHeap m (given_up mark m)
+given_up_heap mark m few =
     ⊎_elim
     (λ less. drop-painted 1024 m.cells mark (replicate (m.used - mark) cell.Dead) (omega (arith, length-replicate (m.used - mark) cell.Dead)))
     (λ more. let none : m.used - mark ≡ 0 = omega arith in ap (λ n. drop 1024 (painted m.cells mark (replicate n cell.Dead))) none)
     (cases_lt mark m.used)
 
-pub given-up-first : (mark : ℕ) (m : Memory) → KeepsFirst mark m (given_up mark m)
-given-up-first mark m = take-painted mark m.cells mark (replicate (m.used - mark) cell.Dead) (omega arith)
+pub given_up_first : (mark : ℕ) (m : Memory) → KeepsFirst mark m (given_up mark m)
+given_up_first mark m = take-painted mark m.cells mark (replicate (m.used - mark) cell.Dead) (omega arith)
 
 -- `new` and `del`
-block-keeps : (o : Option ℕ) (ks : List Kind) (m : Memory) → LeavesVariables m (block_at o ks m).1
-block-keeps None ks m = (refl, refl)
-block-keeps (Some i) ks m = (take-painted 1024 m.cells (1024 + i) (fresh ks) (omega arith), refl)
+block_keeps : (o : Option ℕ) (ks : List Kind) (m : Memory) → LeavesVariables m (block_at o ks m).1
+block_keeps None ks m = (refl, refl)
+block_keeps (Some i) ks m = (take-painted 1024 m.cells (1024 + i) (fresh ks) (omega arith), refl)
 
-pub newed-keeps : (ks : List Kind) (m : Memory) → LeavesVariables m (newed ks m).1
-newed-keeps ks m = cond_both (leb (length ks) 1024) _ _ (λ (p : After ℤ). LeavesVariables m p.1) (λ e. block-keeps (first_row (drop 1024 m.cells) (length ks)) ks m) (λ e. (refl, refl))
+pub newed_keeps : (ks : List Kind) (m : Memory) → LeavesVariables m (newed ks m).1
+newed_keeps ks m = cond_both (leb (length ks) 1024) _ _ (λ (p : After ℤ). LeavesVariables m p.1) (λ e. block_keeps (first_row (drop 1024 m.cells) (length ks)) ks m) (λ e. (refl, refl))
 
 drop_keeps : (i n : ℕ) (m : Memory) → LeavesVariables m (drop_block i n m).1
 drop_keeps i zero m = (refl, refl)
 drop_keeps i (suc n) m = (take-painted 1024 m.cells (1024 + i) (replicate (suc n) cell.Dead) (omega arith), refl)
 
-deleted-at-keeps : (o : Option ℕ) (m : Memory) → LeavesVariables m (deleted_at o m).1
-deleted-at-keeps None m = (refl, refl)
-deleted-at-keeps (Some j) m = cond_both (leb 1024 j) _ _ (λ (p : After Unit). LeavesVariables m p.1) (λ e. drop_keeps (j - 1024) (get_or m.blocks (j - 1024) 0) m) (λ e. (refl, refl))
+deleted_at_keeps : (o : Option ℕ) (m : Memory) → LeavesVariables m (deleted_at o m).1
+deleted_at_keeps None m = (refl, refl)
+deleted_at_keeps (Some j) m = cond_both (leb 1024 j) _ _ (λ (p : After Unit). LeavesVariables m p.1) (λ e. drop_keeps (j - 1024) (get_or m.blocks (j - 1024) 0) m) (λ e. (refl, refl))
 
-pub deleted-keeps : (a : ℤ) (m : Memory) → LeavesVariables m (deleted a m).1
-deleted-keeps a m = deleted-at-keeps (index_of a) m
+pub deleted_keeps : (a : ℤ) (m : Memory) → LeavesVariables m (deleted a m).1
+deleted_keeps a m = deleted_at_keeps (index_of a) m
 
 -- writing
 rank_same : (j k : Kind) → eqb (rank j) (rank k) ≡ true → j ≡ k
@@ -95,43 +95,43 @@ rank_same kind.Pointer kind.Int e = let z : ◌≡◌ {A = ℕ} 0 1 = cc in absu
 rank_same kind.Pointer kind.Bool e = let z : ◌≡◌ {A = ℕ} 0 1 = cc in absurd (omega arith)
 rank_same kind.Pointer kind.Pointer e = refl
 
-is-kind-same : (o : Option Kind) (k : Kind) → is_kind o k ≡ true → o ≡ Some k
-is-kind-same None k e = let z : ◌≡◌ {A = ℕ} 0 1 = cc in absurd (omega arith)
-is-kind-same (Some j) k e = ap Some (rank_same j k e)
+is_kind_same : (o : Option Kind) (k : Kind) → is_kind o k ≡ true → o ≡ Some k
+is_kind_same None k e = let z : ◌≡◌ {A = ℕ} 0 1 = cc in absurd (omega arith)
+is_kind_same (Some j) k e = ap Some (rank_same j k e)
 
-holding-kind : (v : Value) → kind_in (cell_of v) ≡ kind_of v
-holding-kind value.Nothing = refl
-holding-kind (value.Char c) = refl
-holding-kind (value.Int n) = refl
-holding-kind (value.Bool b) = refl
-holding-kind (value.Pointer n) = refl
+holding_kind : (v : Value) → kind_in (cell_of v) ≡ kind_of v
+holding_kind value.Nothing = refl
+holding_kind (value.Char c) = refl
+holding_kind (value.Int n) = refl
+holding_kind (value.Bool b) = refl
+holding_kind (value.Pointer n) = refl
 
 -- a result that is a cell has the kind of another
 abbrev SameKind : Cell → Result Cell Stop → Type 0
 SameKind c (Ok d) = kind_in d ≡ kind_in c
 SameKind c (Err s) = Unit {0}
 
-as-kind-same : (o : Option Kind) (v : Value) (c : Cell) → kind_of v ≡ o → SameKind c (as_kind o v c)
-as-kind-same None v c e = tt
-as-kind-same (Some k) v c e =
-    cond_both (is_kind (kind_in c) k) (Ok (cell_of v)) no_cell (SameKind c) (λ t. holding-kind v ∙ e ∙ sym (is-kind-same (kind_in c) k t)) (λ _. tt)
+as_kind_same : (o : Option Kind) (v : Value) (c : Cell) → kind_of v ≡ o → SameKind c (as_kind o v c)
+as_kind_same None v c e = tt
+as_kind_same (Some k) v c e =
+    cond_both (is_kind (kind_in c) k) (Ok (cell_of v)) no_cell (SameKind c) (λ t. holding_kind v ∙ e ∙ sym (is_kind_same (kind_in c) k t)) (λ _. tt)
 
-written-kind : (v : Value) (c : Cell) → SameKind c (written_by v c)
-written-kind v c = as-kind-same (kind_of v) v c refl
+written_kind : (v : Value) (c : Cell) → SameKind c (written_by v c)
+written_kind v c = as_kind_same (kind_of v) v c refl
 
 get_or-map-kind_in : (cs : List Cell) (i : ℕ) → get_or (map kind_in cs) i None ≡ kind_in (get_or cs i cell.Dead)
 get_or-map-kind_in [] i = refl
 get_or-map-kind_in (c ∷ cs) zero = refl
 get_or-map-kind_in (c ∷ cs) (suc i) = get_or-map-kind_in cs i
 
-set-same-kind : (cs : List Cell) (i : ℕ) (c : Cell) → kind_in c ≡ kind_in (get_or cs i cell.Dead) → map kind_in (set cs i c) ≡ map kind_in cs
-set-same-kind cs i c e = map-set kind_in cs i c ∙ ap (set (map kind_in cs) i) (e ∙ sym (get_or-map-kind_in cs i)) ∙ set-get_or (map kind_in cs) i None
+set_same_kind : (cs : List Cell) (i : ℕ) (c : Cell) → kind_in c ≡ kind_in (get_or cs i cell.Dead) → map kind_in (set cs i c) ≡ map kind_in cs
+set_same_kind cs i c e = map-set kind_in cs i c ∙ ap (set (map kind_in cs) i) (e ∙ sym (get_or-map-kind_in cs i)) ∙ set-get_or (map kind_in cs) i None
 
-place-keeps : (o : Option ℕ) (r : Result Cell Stop) (m : Memory) → SameKind (at o m.cells) r → KeepsKinds m (place o r m).1
-place-keeps None (Ok c) m s = refl
-place-keeps None (Err x) m s = refl
-place-keeps (Some i) (Ok c) m s = set-same-kind m.cells i c s
-place-keeps (Some i) (Err x) m s = refl
+place_keeps : (o : Option ℕ) (r : Result Cell Stop) (m : Memory) → SameKind (at o m.cells) r → KeepsKinds m (place o r m).1
+place_keeps None (Ok c) m s = refl
+place_keeps None (Err x) m s = refl
+place_keeps (Some i) (Ok c) m s = set_same_kind m.cells i c s
+place_keeps (Some i) (Err x) m s = refl
 
 pub written_keeps : (a : ℤ) (v : Value) (m : Memory) → KeepsKinds m (written a v m).1
-written_keeps a v m = place-keeps (index_of a) (written_by v (cell_at m.cells a)) m (written-kind v (cell_at m.cells a))
+written_keeps a v m = place_keeps (index_of a) (written_by v (cell_at m.cells a)) m (written_kind v (cell_at m.cells a))

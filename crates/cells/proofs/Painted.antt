@@ -8,34 +8,34 @@ use Rattle.cells.specs.declared.cell.Cell.{Cell}
 use Rattle.cells.specs.declared.cell.Cell.TheVariants.{Dead, Unwritten}
 
 -- the kind at i comes before the rest
-pub kind-first : (ks : List Kind) (i : ℕ) (k : Kind) → Some k ≡ kind_at ks i → drop i ks ≡ k ∷ drop (i + 1) ks
-kind-first [] i k e = let z : ◌≡◌ {A = ℕ} 0 1 = cc in absurd (omega arith)
-kind-first (x ∷ xs) zero k e = let same : x ≡ k = cc in ap (λ y. y ∷ xs) same
-kind-first (x ∷ xs) (suc i) k e =
+pub kind_first : (ks : List Kind) (i : ℕ) (k : Kind) → Some k ≡ kind_at ks i → drop i ks ≡ k ∷ drop (i + 1) ks
+kind_first [] i k e = let z : ◌≡◌ {A = ℕ} 0 1 = cc in absurd (omega arith)
+kind_first (x ∷ xs) zero k e = let same : x ≡ k = cc in ap (λ y. y ∷ xs) same
+kind_first (x ∷ xs) (suc i) k e =
     let n : suc (i + 1) ≡ suc i + 1 = omega arith in
-    kind-first xs i k e ∙ ap (λ m. k ∷ drop m (x ∷ xs)) n
+    kind_first xs i k e ∙ ap (λ m. k ∷ drop m (x ∷ xs)) n
 
-pub kind-there : (ks : List Kind) (i : ℕ) → i < length ks → None ≡ kind_at ks i → ⊥
-kind-there [] i h e = absurd (omega arith)
-kind-there (x ∷ xs) zero h e = let z : ◌≡◌ {A = ℕ} 0 1 = cc in absurd (omega arith)
-kind-there (x ∷ xs) (suc i) h e = kind-there xs i (omega arith) e
+pub kind_there : (ks : List Kind) (i : ℕ) → i < length ks → None ≡ kind_at ks i → ⊥
+kind_there [] i h e = absurd (omega arith)
+kind_there (x ∷ xs) zero h e = let z : ◌≡◌ {A = ℕ} 0 1 = cc in absurd (omega arith)
+kind_there (x ∷ xs) (suc i) h e = kind_there xs i (omega arith) e
 
 -- one cell more comes to life
-pub enliven-more : (cs cs' : List Cell) (at i : ℕ) (ks : List Kind) (k : Kind) → Some k ≡ kind_at ks i → cs' ≡ set cs (at + i) (Unwritten k) →
+pub enliven_more : (cs cs' : List Cell) (at i : ℕ) (ks : List Kind) (k : Kind) → Some k ≡ kind_at ks i → cs' ≡ set cs (at + i) (Unwritten k) →
     painted cs' (at + (i + 1)) (fresh (drop (i + 1) ks)) ≡ painted cs (at + i) (fresh (drop i ks))
-enliven-more cs cs' at i ks k e p =
+enliven_more cs cs' at i ks k e p =
     let n : at + (i + 1) ≡ at + i + 1 = omega arith in
-    (λ t. painted (p t) (n t) (fresh (drop (i + 1) ks))) ∙ sym (ap (λ l. painted cs (at + i) (fresh l)) (kind-first ks i k e))
+    (λ t. painted (p t) (n t) (fresh (drop (i + 1) ks))) ∙ sym (ap (λ l. painted cs (at + i) (fresh l)) (kind_first ks i k e))
 
-pub enliven-end : (cs : List Cell) (at i : ℕ) (ks : List Kind) → length ks ≤ i → painted cs (at + i) (fresh (drop i ks)) ≡ cs
-enliven-end cs at i ks h = ap (λ l. painted cs (at + i) (fresh l)) (drop_all i ks h)
+pub enliven_end : (cs : List Cell) (at i : ℕ) (ks : List Kind) → length ks ≤ i → painted cs (at + i) (fresh (drop i ks)) ≡ cs
+enliven_end cs at i ks h = ap (λ l. painted cs (at + i) (fresh l)) (drop_all i ks h)
 
 -- one cell more dies
-pub kill-more : (cs cs' : List Cell) (at i n : ℕ) → i < n → cs' ≡ set cs (at + i) Dead → painted cs' (at + (i + 1)) (replicate (n - (i + 1)) Dead) ≡ painted cs (at + i) (replicate (n - i) Dead)
-kill-more cs cs' at i n h p =
+pub kill_more : (cs cs' : List Cell) (at i n : ℕ) → i < n → cs' ≡ set cs (at + i) Dead → painted cs' (at + (i + 1)) (replicate (n - (i + 1)) Dead) ≡ painted cs (at + i) (replicate (n - i) Dead)
+kill_more cs cs' at i n h p =
     let m : at + (i + 1) ≡ at + i + 1 = omega arith in
     let l : n - i ≡ suc (n - (i + 1)) = omega arith in
     (λ t. painted (p t) (m t) (replicate (n - (i + 1)) Dead)) ∙ sym (ap (λ k. painted cs (at + i) (replicate k Dead)) l)
 
-pub kill-end : (cs : List Cell) (at i n : ℕ) → n ≤ i → painted cs (at + i) (replicate (n - i) Dead) ≡ cs
-kill-end cs at i n h = let l : n - i ≡ 0 = omega arith in ap (λ k. painted cs (at + i) (replicate k Dead)) l
+pub kill_end : (cs : List Cell) (at i n : ℕ) → n ≤ i → painted cs (at + i) (replicate (n - i) Dead) ≡ cs
+kill_end cs at i n h = let l : n - i ≡ 0 = omega arith in ap (λ k. painted cs (at + i) (replicate k Dead)) l

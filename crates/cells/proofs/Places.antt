@@ -22,12 +22,12 @@ row_ends cs s i n h d =
     let p : n - i ≡ suc (n - (i + 1)) = omega arith in
     row_step cs (s + i) (n - i) (n - (i + 1)) false p d
 
-pub row-none : (cs : List Cell) (j n : ℕ) → n ≡ 0 → row cs j n ≡ true
+pub row_none : (cs : List Cell) (j n : ℕ) → n ≡ 0 → row cs j n ≡ true
 unfolding row
-row-none cs j n e = ap (row cs j) e
+row_none cs j n e = ap (row cs j) e
 
-pub dead-past : (cs : List Cell) (j : ℕ) → length cs ≤ j → dead_at cs j ≡ false
-dead-past cs j h = ap is_dead (get_or_past cs j (Unwritten Char) h)
+pub dead_past : (cs : List Cell) (j : ℕ) → length cs ≤ j → dead_at cs j ≡ false
+dead_past cs j h = ap is_dead (get_or_past cs j (Unwritten Char) h)
 
 -- one start of the search
 from_step : (cs : List Cell) (n i d e : ℕ) (b : Bool) → d ≡ suc e → row cs i n ≡ b → first_from cs n i d ≡ cond b (Some i) (first_from cs n (suc i) e)
@@ -40,18 +40,18 @@ from_next cs n i h q =
     let r : suc i ≡ i + 1 = omega arith in
     from_step cs n i (length cs - i) (length cs - (i + 1)) false p q ∙ ap (λ j. first_from cs n j (length cs - (i + 1))) r
 
-pub from-here : (cs : List Cell) (n i : ℕ) → i < length cs → row cs i n ≡ true → first_from cs n i (length cs - i) ≡ Some i
-from-here cs n i h q =
+pub from_here : (cs : List Cell) (n i : ℕ) → i < length cs → row cs i n ≡ true → first_from cs n i (length cs - i) ≡ Some i
+from_here cs n i h q =
     let p : length cs - i ≡ suc (length cs - (i + 1)) = omega arith in
     from_step cs n i (length cs - i) (length cs - (i + 1)) true p q
 
-pub from-none : (cs : List Cell) (n i d : ℕ) → d ≡ 0 → first_from cs n i d ≡ None
+pub from_none : (cs : List Cell) (n i d : ℕ) → d ≡ 0 → first_from cs n i d ≡ None
 unfolding first_from
-from-none cs n i d e = ap (first_from cs n i) e
+from_none cs n i d e = ap (first_from cs n i) e
 
 -- what a cell that was read says
-pub dead-read : (cs : List Cell) (j : ℕ) (d : Cell) (r b : Bool) → j < length cs → r ≡ is_dead (get_or cs j d) → r ≡ b → dead_at cs j ≡ b
-dead-read cs j d r b h e q = ap is_dead (get_or_default cs j (Unwritten Char) d h) ∙ sym e ∙ q
+pub dead_read : (cs : List Cell) (j : ℕ) (d : Cell) (r b : Bool) → j < length cs → r ≡ is_dead (get_or cs j d) → r ≡ b → dead_at cs j ≡ b
+dead_read cs j d r b h e q = ap is_dead (get_or_default cs j (Unwritten Char) d h) ∙ sym e ∙ q
 
-pub start-ends : (cs : List Cell) (s i n : ℕ) {r : Option ℕ} → s < length cs → i < n → row cs s n ≡ row cs (s + i) (n - i) → dead_at cs (s + i) ≡ false → first_from cs n s (length cs - s) ≡ r → first_from cs n (s + 1) (length cs - (s + 1)) ≡ r
-start-ends cs s i n h k e d q = sym (from_next cs n s h (e ∙ row_ends cs s i n k d)) ∙ q
+pub start_ends : (cs : List Cell) (s i n : ℕ) {r : Option ℕ} → s < length cs → i < n → row cs s n ≡ row cs (s + i) (n - i) → dead_at cs (s + i) ≡ false → first_from cs n s (length cs - s) ≡ r → first_from cs n (s + 1) (length cs - (s + 1)) ≡ r
+start_ends cs s i n h k e d q = sym (from_next cs n s h (e ∙ row_ends cs s i n k d)) ∙ q

@@ -10,62 +10,62 @@ use Rattle.cells.specs.Layouts.{fresh}
 use Rattle.cells.specs.Memory.{Memory, After, block_at, deleted, deleted_at, drop_block, newed}
 use Rattle.cells.specs.Rows.{painted}
 use Rattle.cells.specs.declared.cell.Cell.TheVariants.{Dead}
-use Rattle.cells.proofs.Found.{dead-over, first-lowest, painted-over}
+use Rattle.cells.proofs.Found.{dead_over, first_lowest, painted_over}
 use Rattle.cells.proofs.Stored.{length-fresh}
 
-index-block : (i : ℕ) → i < 1024 → index_of (pos (1025 + i)) ≡ Some (1024 + i)
-index-block i h =
+index_block : (i : ℕ) → i < 1024 → index_of (pos (1025 + i)) ≡ Some (1024 + i)
+index_block i h =
     let e : 1025 + i ≡ suc (1024 + i) = omega arith in
     ap (λ n. index_of (pos n)) e ∙ cond-true _ _ _ (lt-ltb (1024 + i) 2048 (omega arith))
 
 module _ (ks : List Kind) (m : Memory) (some : 1 ≤ length ks) (long : length m.cells ≡ 2048) (starts : length m.blocks ≡ 1024) where
-  heap-long : length (drop 1024 m.cells) ≡ 1024
-  heap-long = length-drop 1024 m.cells ∙ omega arith
+  heap_long : length (drop 1024 m.cells) ≡ 1024
+  heap_long = length-drop 1024 m.cells ∙ omega arith
 
-  finds-by : (o : Option ℕ) → Lowest (drop 1024 m.cells) (length ks) o → Finds (drop 1024 m.cells) (length ks) (block_at o ks m).0
-  finds-by None l = l
-  finds-by (Some i) l = (i, refl, l)
+  finds_by : (o : Option ℕ) → Lowest (drop 1024 m.cells) (length ks) o → Finds (drop 1024 m.cells) (length ks) (block_at o ks m).0
+  finds_by None l = l
+  finds_by (Some i) l = (i, refl, l)
 
   too_long : leb (length ks) 1024 ≡ false → Lowest (drop 1024 m.cells) (length ks) None
-  too_long e j r = let over = leb-false _ _ e in omega (arith, over, r.0, heap-long)
+  too_long e j r = let over = leb-false _ _ e in omega (arith, over, r.0, heap_long)
 
-  pub newed-finds : Finds (drop 1024 m.cells) (length ks) (newed ks m).0
-  newed-finds =
+  pub newed_finds : Finds (drop 1024 m.cells) (length ks) (newed ks m).0
+  newed_finds =
       cond_both (leb (length ks) 1024) _ _ (λ (p : After ℤ). Finds (drop 1024 m.cells) (length ks) p.0)
-      (λ e. finds-by (first_row (drop 1024 m.cells) (length ks)) (first-lowest (drop 1024 m.cells) (length ks) some))
+      (λ e. finds_by (first_row (drop 1024 m.cells) (length ks)) (first_lowest (drop 1024 m.cells) (length ks) some))
       too_long
 
   -- the block that begins at place i dies
-  block-dies : (i n : ℕ) (m' : Memory) → i < 1024 → get_or m'.blocks i 0 ≡ suc n → deleted (pos (1025 + i)) m' ≡ drop_block i (suc n) m'
-  block-dies i n m' h size =
+  block_dies : (i n : ℕ) (m' : Memory) → i < 1024 → get_or m'.blocks i 0 ≡ suc n → deleted (pos (1025 + i)) m' ≡ drop_block i (suc n) m'
+  block_dies i n m' h size =
       let back : 1024 + i - 1024 ≡ i = omega arith in
-      ap (λ o. deleted_at o m') (index-block i h)
+      ap (λ o. deleted_at o m') (index_block i h)
       ∙ cond-true _ _ _ (le-leb 1024 (1024 + i) (omega arith))
       ∙ ap (λ j. drop_block j (get_or m'.blocks j 0) m') back
       ∙ ap (λ s. drop_block i s m') size
 
-  cells-back : (i n : ℕ) → length ks ≡ suc n → DeadRow (drop 1024 m.cells) i (length ks) → painted (painted m.cells (1024 + i) (fresh ks)) (1024 + i) (replicate (suc n) Dead) ≡ m.cells
-  cells-back i n size r =
-      painted-over m.cells (1024 + i) (fresh ks) (replicate (suc n) Dead) (length-fresh ks ∙ size ∙ sym (length-replicate (suc n) Dead))
-      ∙ dead-over m.cells (1024 + i) (suc n)
+  cells_back : (i n : ℕ) → length ks ≡ suc n → DeadRow (drop 1024 m.cells) i (length ks) → painted (painted m.cells (1024 + i) (fresh ks)) (1024 + i) (replicate (suc n) Dead) ≡ m.cells
+  cells_back i n size r =
+      painted_over m.cells (1024 + i) (fresh ks) (replicate (suc n) Dead) (length-fresh ks ∙ size ∙ sym (length-replicate (suc n) Dead))
+      ∙ dead_over m.cells (1024 + i) (suc n)
       (λ k h. let e : 1024 + i + k ≡ 1024 + (i + k) = omega arith in ap (λ j. get_or m.cells j Dead) e ∙ sym (get_or-drop 1024 m.cells (i + k) Dead) ∙ r.1 k (omega arith))
 
-  restores-at : (i n : ℕ) → length ks ≡ suc n → DeadRow (drop 1024 m.cells) i (length ks) → Restores m (block_at (Some i) ks m).0 (block_at (Some i) ks m).1
-  restores-at i n size r =
-      let low : i < 1024 = omega (arith, r.0, heap-long) in
+  restores_at : (i n : ℕ) → length ks ≡ suc n → DeadRow (drop 1024 m.cells) i (length ks) → Restores m (block_at (Some i) ks m).0 (block_at (Some i) ks m).1
+  restores_at i n size r =
+      let low : i < 1024 = omega (arith, r.0, heap_long) in
       let held : get_or (set m.blocks i (length ks)) i 0 ≡ suc n = get_or-set_same m.blocks i (length ks) 0 (omega arith) ∙ size in
-      ap (λ p. p.1.cells) (block-dies i n (block_at (Some i) ks m).1 low held) ∙ cells-back i n size r
+      ap (λ p. p.1.cells) (block_dies i n (block_at (Some i) ks m).1 low held) ∙ cells_back i n size r
 
   pred_of : (n : ℕ) → 1 ≤ n → (p : ℕ) × (n ≡ suc p)
   pred_of zero h = absurd (omega arith)
   pred_of (suc n) h = (n, refl)
 
-  restores-by : (o : Option ℕ) → Lowest (drop 1024 m.cells) (length ks) o → Restores m (block_at o ks m).0 (block_at o ks m).1
-  restores-by None l = refl
-  restores-by (Some i) l = let p = pred_of (length ks) some in restores-at i p.0 p.1 l.0
+  restores_by : (o : Option ℕ) → Lowest (drop 1024 m.cells) (length ks) o → Restores m (block_at o ks m).0 (block_at o ks m).1
+  restores_by None l = refl
+  restores_by (Some i) l = let p = pred_of (length ks) some in restores_at i p.0 p.1 l.0
 
-  pub newed-restores : Restores m (newed ks m).0 (newed ks m).1
-  newed-restores =
+  pub newed_restores : Restores m (newed ks m).0 (newed ks m).1
+  newed_restores =
       cond_both (leb (length ks) 1024) _ _ (λ (p : After ℤ). Restores m p.0 p.1)
-      (λ e. restores-by (first_row (drop 1024 m.cells) (length ks)) (first-lowest (drop 1024 m.cells) (length ks) some))
+      (λ e. restores_by (first_row (drop 1024 m.cells) (length ks)) (first_lowest (drop 1024 m.cells) (length ks) some))
       (λ e. refl)

@@ -16,18 +16,18 @@ pub length-fresh : (ks : List Kind) → length (fresh ks) ≡ length ks
 length-fresh ks = length-map ks Unwritten
 
 module _ (ks : List Kind) (m : Memory) where
-  pub laid-full : 1024 < m.used + length ks → laid ks m ≡ refuses (Fault StackFull) m
-  laid-full h =
+  pub laid_full : 1024 < m.used + length ks → laid ks m ≡ refuses (Fault StackFull) m
+  laid_full h =
       let long : 1024 < m.used + length (fresh ks) = omega (arith, h, length-fresh ks) in
       cond-false _ _ _ (lt-leb _ _ long)
 
-  pub laid-fits : m.used + length ks ≤ 1024 → laid ks m ≡ (Ok (pos (m.used + 1)), record { cells = painted m.cells m.used (fresh ks); used = m.used + length (fresh ks); blocks = m.blocks })
-  laid-fits h =
+  pub laid_fits : m.used + length ks ≤ 1024 → laid ks m ≡ (Ok (pos (m.used + 1)), record { cells = painted m.cells m.used (fresh ks); used = m.used + length (fresh ks); blocks = m.blocks })
+  laid_fits h =
       let short : m.used + length (fresh ks) ≤ 1024 = omega (arith, h, length-fresh ks) in
       cond-true _ _ _ (le-leb _ _ short)
 
-  pub new-over : 1024 < length ks → newed ks m ≡ refuses (Fault HeapFull) m
-  new-over h = cond-false _ _ _ (lt-leb _ _ h)
+  pub new_over : 1024 < length ks → newed ks m ≡ refuses (Fault HeapFull) m
+  new_over h = cond-false _ _ _ (lt-leb _ _ h)
 
   -- where the search for a row, in the cells of `new`, gave o
   pub new_by : (o : Option ℕ) (cs : List Cell) (n : ℕ) → length ks ≤ 1024 → cs ≡ m.cells → length m.cells ≡ 2048 → n ≡ length ks → o ≡ first_row (take 1024 (drop 1024 cs)) n → newed ks m ≡ block_at o ks m

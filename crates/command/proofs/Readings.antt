@@ -19,8 +19,8 @@ module _ {X : Type 0} (f : X → List ℕ) (ws : List X) (i : ℕ) where
         let split : drop i ws ≡ w ∷ drop (i + 1) ws = drop_more ws i w within ∙ ap (λ x. x ∷ drop (i + 1) ws) (sym at) in
         ap (λ l. requests_of (i + 1) (map f l)) split ∙ ap (λ t. before (i + 1) (request_of t) (requests_of (i + 1 + 1) (map f (drop (i + 1) ws)))) (sym is)
 
-    pub word-bad : (xs : List (List ℕ)) → None ≡ request_of text → after xs (requests_of (i + 1) (map f (drop i ws))) ≡ Err (i + 1)
-    word-bad xs e = ap (after xs) (word_first ∙ ap (λ o. before (i + 1) o (requests_of (i + 1 + 1) (map f (drop (i + 1) ws)))) (sym e))
+    pub word_bad : (xs : List (List ℕ)) → None ≡ request_of text → after xs (requests_of (i + 1) (map f (drop i ws))) ≡ Err (i + 1)
+    word_bad xs e = ap (after xs) (word_first ∙ ap (λ o. before (i + 1) o (requests_of (i + 1 + 1) (map f (drop (i + 1) ws)))) (sym e))
 
     pub word_more : (xs ys : List (List ℕ)) (q : List ℕ) → Some q ≡ request_of text → ys ≡ xs ++ q ∷ [] → after ys (requests_of (i + 1 + 1) (map f (drop (i + 1) ws))) ≡ after xs (requests_of (i + 1) (map f (drop i ws)))
     word_more xs ys q e p =

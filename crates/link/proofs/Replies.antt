@@ -7,20 +7,20 @@ use Rattle.std.proofs.lemmas.Slice.Eq.{bytes_eq-Decides}
 use Rattle.buffers.specs.Bytes.{byte_at}
 use Rattle.link.specs.Visits.{same_byte}
 
-pub byte-there : (p : List ℕ) (i : ℕ) → i < length p → byte_at p i ≡ Some (get_or p i 0)
-byte-there p i h = cond-true _ _ _ (lt-ltb _ _ h)
+pub byte_there : (p : List ℕ) (i : ℕ) → i < length p → byte_at p i ≡ Some (get_or p i 0)
+byte_there p i h = cond-true _ _ _ (lt-ltb _ _ h)
 
 -- one byte more of a reply
 pub read_more : (p bytes : List ℕ) (i b : ℕ) → i < length p → Some b ≡ byte_at p i → bytes ≡ take i p → bytes ++ b ∷ [] ≡ take (i + 1) p
 read_more p bytes i b h e t =
-    let there = byte-there p i h in
+    let there = byte_there p i h in
     let is : b ≡ get_or p i 0 = cc in
     let more = take_more p i 0 h in
     cc
 
-pub none-past : (p : List ℕ) (i : ℕ) → i < length p → None ≡ byte_at p i → ⊥
-none-past p i h e =
-    let there = byte-there p i h in
+pub none_past : (p : List ℕ) (i : ℕ) → i < length p → None ≡ byte_at p i → ⊥
+none_past p i h e =
+    let there = byte_there p i h in
     let z : ◌≡◌ {A = ℕ} 0 1 = cc in
     absurd (omega arith)
 
@@ -33,18 +33,18 @@ module _ (p q : List ℕ) where
     head_first h =
         let left = drop_more p i 0 h in
         let right = drop_more q i 0 (omega arith) in
-        let x = byte-there p i h in
-        let y = byte-there q i (omega arith) in
+        let x = byte_there p i h in
+        let y = byte_there q i (omega arith) in
         (λ k. bytes_eq (left k) (right k)) ∙ sym (λ k. same_byte (x k) (y k) && bytes_eq (drop (i + 1) p) (drop (i + 1) q))
 
-    pub bytes-differ : i < length p → same_byte (byte_at p i) (byte_at q i) ≡ false → bytes_eq (drop i p) (drop i q) ≡ false
-    bytes-differ h e = head_first h ∙ and_left _ _ e
+    pub bytes_differ : i < length p → same_byte (byte_at p i) (byte_at q i) ≡ false → bytes_eq (drop i p) (drop i q) ≡ false
+    bytes_differ h e = head_first h ∙ and_left _ _ e
 
-    pub bytes-agree : i < length p → same_byte (byte_at p i) (byte_at q i) ≡ true → bytes_eq (drop i p) (drop i q) ≡ bytes_eq (drop (i + 1) p) (drop (i + 1) q)
-    bytes-agree h e = head_first h ∙ ap (λ t. t && bytes_eq (drop (i + 1) p) (drop (i + 1) q)) e
+    pub bytes_agree : i < length p → same_byte (byte_at p i) (byte_at q i) ≡ true → bytes_eq (drop i p) (drop i q) ≡ bytes_eq (drop (i + 1) p) (drop (i + 1) q)
+    bytes_agree h e = head_first h ∙ ap (λ t. t && bytes_eq (drop (i + 1) p) (drop (i + 1) q)) e
 
-    pub all-agree : length p ≤ i → bytes_eq (drop i p) (drop i q) ≡ true
-    all-agree h =
+    pub all_agree : length p ≤ i → bytes_eq (drop i p) (drop i q) ≡ true
+    all_agree h =
         let left = drop_all i p h in
         let right = drop_all i q (omega arith) in
         λ k. bytes_eq (left k) (right k)

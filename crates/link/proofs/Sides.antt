@@ -6,14 +6,14 @@ use Rattle.link.specs.Cars.{Answer, silence, reply, Car, after, reply_of, Alike}
 use Rattle.link.specs.Visits.{answers, after_all, last_reply, same_answer, or_else, unless, first_difference, Differs}
 
 -- the request at i comes before the rest
-pub next-request : {X : Type 0} (f : X → List ℕ) (rs : List X) (i : ℕ) (r : X) (q : List ℕ) → i < length rs → r ≡ get_or rs i r → q ≡ f r → map f (drop i rs) ≡ q ∷ map f (drop (i + 1) rs)
-next-request f rs i r q h at e =
+pub next_request : {X : Type 0} (f : X → List ℕ) (rs : List X) (i : ℕ) (r : X) (q : List ℕ) → i < length rs → r ≡ get_or rs i r → q ≡ f r → map f (drop i rs) ≡ q ∷ map f (drop (i + 1) rs)
+next_request f rs i r q h at e =
     let left : drop i rs ≡ r ∷ drop (i + 1) rs = drop_more rs i r h ∙ ap (λ x. x ∷ drop (i + 1) rs) (sym at) in
     ap (map f) left ∙ ap (λ x. x ∷ map f (drop (i + 1) rs)) (sym e)
 
-or-else-assoc : (a b c : Option ℕ) → or_else (or_else a b) c ≡ or_else a (or_else b c)
-or-else-assoc None b c = refl
-or-else-assoc (Some x) b c = refl
+or_else_assoc : (a b c : Option ℕ) → or_else (or_else a b) c ≡ or_else a (or_else b c)
+or_else_assoc None b c = refl
+or_else_assoc (Some x) b c = refl
 
 or_else_none : (a : Option ℕ) → or_else a None ≡ a
 or_else_none None = refl
@@ -24,28 +24,28 @@ module _ (qs rest : List (List ℕ)) (q : List ℕ) (is : qs ≡ q ∷ rest) whe
   pub after_more : (car car' : Car) → car' ≡ after q car → after_all car' rest ≡ after_all car qs
   after_more car car' next = ap (λ k. after_all k rest) next ∙ sym (ap (after_all car) is)
 
-  pub reply-more : (car car' : Car) (p p' : List ℕ) → car' ≡ after q car → p' ≡ reply_of (car [] q) → last_reply p' car' rest ≡ last_reply p car qs
-  reply-more car car' p p' next shown = (λ k. last_reply (shown k) (next k) rest) ∙ sym (ap (last_reply p car) is)
+  pub reply_more : (car car' : Car) (p p' : List ℕ) → car' ≡ after q car → p' ≡ reply_of (car [] q) → last_reply p' car' rest ≡ last_reply p car qs
+  reply_more car car' p p' next shown = (λ k. last_reply (shown k) (next k) rest) ∙ sym (ap (last_reply p car) is)
 
   pub first_more : (k : ℕ) (l l' r r' : Car) (first first' : Option ℕ) (same : Bool) → l' ≡ after q l → r' ≡ after q r → same ≡ same_answer (l [] q) (r [] q) → first' ≡ or_else first (unless same k) →
       or_else first' (first_difference (k + 1) l' r' rest) ≡ or_else first (first_difference k l r qs)
   first_more k l l' r r' first first' same nl nr s f =
       let later = first_difference (k + 1) (after q l) (after q r) rest in
       (λ t. or_else (f t) (first_difference (k + 1) (nl t) (nr t) rest))
-      ∙ or-else-assoc first (unless same k) later
+      ∙ or_else_assoc first (unless same k) later
       ∙ ap (λ b. or_else first (or_else (unless b k) later)) s
       ∙ sym (ap (λ xs. or_else first (first_difference k l r xs)) is)
 
 -- none is left
 module _ (qs : List (List ℕ)) (none : qs ≡ []) where
-  pub after-end : (car : Car) → after_all car qs ≡ car
-  after-end car = ap (after_all car) none
+  pub after_end : (car : Car) → after_all car qs ≡ car
+  after_end car = ap (after_all car) none
 
-  pub reply-end : (p : List ℕ) (car : Car) → last_reply p car qs ≡ p
-  reply-end p car = ap (last_reply p car) none
+  pub reply_end : (p : List ℕ) (car : Car) → last_reply p car qs ≡ p
+  reply_end p car = ap (last_reply p car) none
 
-  pub first-end : (k : ℕ) (l r : Car) (first : Option ℕ) → or_else first (first_difference k l r qs) ≡ first
-  first-end k l r first = ap (λ xs. or_else first (first_difference k l r xs)) none ∙ or_else_none first
+  pub first_end : (k : ℕ) (l r : Car) (first : Option ℕ) → or_else first (first_difference k l r qs) ≡ first
+  first_end k l r first = ap (λ xs. or_else first (first_difference k l r xs)) none ∙ or_else_none first
 
 same_refl : (a : Answer) → same_answer a a ≡ true
 same_refl silence = refl
@@ -58,17 +58,17 @@ same_true (reply a) silence e = let z : ◌≡◌ {A = ℕ} 0 1 = cc in absurd (
 same_true (reply a) (reply b) e = ap reply ((bytes_eq-Decides a b).0 e)
 
 -- Links that are alike never differ, and stay alike.
-pub alike-never-differ : (k : ℕ) (l r : Car) (qs : List (List ℕ)) → ((earlier : List (List ℕ)) (last : List ℕ) → l earlier last ≡ r earlier last) → first_difference k l r qs ≡ None
-alike-never-differ k l r [] cars = refl
-alike-never-differ k l r (q ∷ qs) cars =
+pub alike_never_differ : (k : ℕ) (l r : Car) (qs : List (List ℕ)) → ((earlier : List (List ℕ)) (last : List ℕ) → l earlier last ≡ r earlier last) → first_difference k l r qs ≡ None
+alike_never_differ k l r [] cars = refl
+alike_never_differ k l r (q ∷ qs) cars =
     let same : same_answer (l [] q) (r [] q) ≡ true = ap (same_answer (l [] q)) (sym (cars [] q)) ∙ same_refl (l [] q) in
     ap (λ b. or_else (unless b k) (first_difference (k + 1) (after q l) (after q r) qs)) same
-    ∙ alike-never-differ (k + 1) (after q l) (after q r) qs (λ earlier last. cars (q ∷ earlier) last)
+    ∙ alike_never_differ (k + 1) (after q l) (after q r) qs (λ earlier last. cars (q ∷ earlier) last)
 
-pub alike-after : (l r : Car) (p s : List ℕ) (qs : List (List ℕ)) → Alike l p r s → Alike (after_all l qs) (last_reply p l qs) (after_all r qs) (last_reply s r qs)
-alike-after l r p s [] a = a
-alike-after l r p s (q ∷ qs) a =
-    alike-after (after q l) (after q r) (reply_of (l [] q)) (reply_of (r [] q)) qs
+pub alike_after : (l r : Car) (p s : List ℕ) (qs : List (List ℕ)) → Alike l p r s → Alike (after_all l qs) (last_reply p l qs) (after_all r qs) (last_reply s r qs)
+alike_after l r p s [] a = a
+alike_after l r p s (q ∷ qs) a =
+    alike_after (after q l) (after q r) (reply_of (l [] q)) (reply_of (r [] q)) qs
     (record { cars = λ earlier last. a.cars (q ∷ earlier) last; replies = ap reply_of (a.cars [] q) })
 
 pub alike_is : (l l' r r' : Car) (p p' s s' : List ℕ) → l' ≡ l → p' ≡ p → r' ≡ r → s' ≡ s → Alike l p r s → Alike l' p' r' s'
@@ -78,9 +78,9 @@ alike_is l l' r r' p p' s s' a b c d h = record {
 }
 
 -- The first difference is one, and there is none before it.
-differs-later : (k : ℕ) (a b : Answer) (xs ys : List Answer) (o : Option ℕ) → a ≡ b → Differs (k + 1) xs ys o → Differs k (a ∷ xs) (b ∷ ys) o
-differs-later k a b xs ys None e d = λ t. e t ∷ d t
-differs-later k a b xs ys (Some j) e d =
+differs_later : (k : ℕ) (a b : Answer) (xs ys : List Answer) (o : Option ℕ) → a ≡ b → Differs (k + 1) xs ys o → Differs k (a ∷ xs) (b ∷ ys) o
+differs_later k a b xs ys None e d = λ t. e t ∷ d t
+differs_later k a b xs ys (Some j) e d =
     let m : j - k ≡ suc (j - (k + 1)) = omega (arith, d.0) in (
       omega (arith, d.0),
       omega (arith, d.1),
@@ -88,8 +88,8 @@ differs-later k a b xs ys (Some j) e d =
       subst (λ n. get_or (a ∷ xs) n silence ≡ get_or (b ∷ ys) n silence → ⊥) (sym m) d.3,
     )
 
-differs-here : (k : ℕ) (a b : Answer) (xs ys : List Answer) → (a ≡ b → ⊥) → Differs k (a ∷ xs) (b ∷ ys) (Some k)
-differs-here k a b xs ys ne =
+differs_here : (k : ℕ) (a b : Answer) (xs ys : List Answer) → (a ≡ b → ⊥) → Differs k (a ∷ xs) (b ∷ ys) (Some k)
+differs_here k a b xs ys ne =
     let m : k - k ≡ 0 = omega arith in (
       omega arith,
       omega arith,
@@ -97,11 +97,11 @@ differs-here k a b xs ys ne =
       subst (λ n. get_or (a ∷ xs) n silence ≡ get_or (b ∷ ys) n silence → ⊥) (sym m) ne,
     )
 
-differs-by : (k : ℕ) (a b : Answer) (xs ys : List Answer) (o : Option ℕ) (same : Bool) → same_answer a b ≡ same → Differs (k + 1) xs ys o → Differs k (a ∷ xs) (b ∷ ys) (or_else (unless same k) o)
-differs-by k a b xs ys o true e d = differs-later k a b xs ys o (same_true a b e) d
-differs-by k a b xs ys o false e d =
-    differs-here k a b xs ys (λ is. let t : same_answer a b ≡ true = ap (same_answer a) (sym is) ∙ same_refl a in let z : ◌≡◌ {A = ℕ} 0 1 = cc in absurd (omega arith))
+differs_by : (k : ℕ) (a b : Answer) (xs ys : List Answer) (o : Option ℕ) (same : Bool) → same_answer a b ≡ same → Differs (k + 1) xs ys o → Differs k (a ∷ xs) (b ∷ ys) (or_else (unless same k) o)
+differs_by k a b xs ys o true e d = differs_later k a b xs ys o (same_true a b e) d
+differs_by k a b xs ys o false e d =
+    differs_here k a b xs ys (λ is. let t : same_answer a b ≡ true = ap (same_answer a) (sym is) ∙ same_refl a in let z : ◌≡◌ {A = ℕ} 0 1 = cc in absurd (omega arith))
 
-pub first-differs : (k : ℕ) (l r : Car) (qs : List (List ℕ)) → Differs k (answers l qs) (answers r qs) (first_difference k l r qs)
-first-differs k l r [] = refl
-first-differs k l r (q ∷ qs) = differs-by k (l [] q) (r [] q) _ _ _ (same_answer (l [] q) (r [] q)) refl (first-differs (k + 1) (after q l) (after q r) qs)
+pub first_differs : (k : ℕ) (l r : Car) (qs : List (List ℕ)) → Differs k (answers l qs) (answers r qs) (first_difference k l r qs)
+first_differs k l r [] = refl
+first_differs k l r (q ∷ qs) = differs_by k (l [] q) (r [] q) _ _ _ (same_answer (l [] q) (r [] q)) refl (first_differs (k + 1) (after q l) (after q r) qs)

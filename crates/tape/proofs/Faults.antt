@@ -3,7 +3,7 @@ use Rattle.std.proofs.Common.{◌≡◌, ℕ, zero, suc, ◌+◌, ◌-◌, ◌/�
 use Rattle.std.proofs.lemmas.List.{get_or-take, get_or-drop, length-take, length-drop}
 use Rattle.std.proofs.lemmas.Bool.{and_parts, and_cases, eq-eqb, eqb-true, eqb-false, leb-true, le-leb, both_ways}
 use Rattle.buffers.specs.Records.{records_of, record_at}
-use Rattle.buffers.proofs.Cuts.{length-records, get_or-record_at}
+use Rattle.buffers.proofs.Cuts.{length-records, get_or-records}
 use Rattle.reason.specs.Numbers.{reason_number}
 use Rattle.refusal.specs.Refusals.{refused}
 use Rattle.reason.specs.declared.errors.LinkError.TheVariants.{Size, Mark, Padding, Range}
@@ -14,77 +14,77 @@ use Rattle.tape.specs.Judgement.{judged, wrong, or_else, verdict, counted}
 use Rattle.tape.specs.Rules.{Faulty, mark, padding, request, reply, Broken, size, entry, Judged}
 
 -- a row of zeros, and one that is none
-zeros-all : (xs : List ℕ) → zeros xs ≡ true → (j : ℕ) → get_or xs j 0 ≡ 0
-zeros-all [] e j = refl
-zeros-all (x ∷ xs) e zero = eqb-true x 0 (and_parts _ _ e).0
-zeros-all (x ∷ xs) e (suc j) = zeros-all xs (and_parts _ _ e).1 j
+zeros_all : (xs : List ℕ) → zeros xs ≡ true → (j : ℕ) → get_or xs j 0 ≡ 0
+zeros_all [] e j = refl
+zeros_all (x ∷ xs) e zero = eqb-true x 0 (and_parts _ _ e).0
+zeros_all (x ∷ xs) e (suc j) = zeros_all xs (and_parts _ _ e).1 j
 
-zeros-not : (xs : List ℕ) → zeros xs ≡ false → (j : ℕ) × (j < length xs) × (get_or xs j 0 ≡ 0 → ⊥)
-zeros-not [] e = let z : ◌≡◌ {A = ℕ} 0 1 = cc in absurd (omega arith)
-zeros-not (x ∷ xs) e =
+zeros_not : (xs : List ℕ) → zeros xs ≡ false → (j : ℕ) × (j < length xs) × (get_or xs j 0 ≡ 0 → ⊥)
+zeros_not [] e = let z : ◌≡◌ {A = ℕ} 0 1 = cc in absurd (omega arith)
+zeros_not (x ∷ xs) e =
     ⊎_elim
     (λ here. (0, omega arith, eqb-false x 0 here))
-    (λ later. let r = zeros-not xs later in (suc r.0, omega (arith, r.1), r.2))
+    (λ later. let r = zeros_not xs later in (suc r.0, omega (arith, r.1), r.2))
     (and_cases _ _ e)
 
 -- the tests of one entry decide its rules
 module _ (e : List ℕ) where
-  mark-kept : marked e ≡ true → (get_or e 0 0 ≡ 81 → get_or e 1 0 ≡ 65 → ⊥) → ⊥
-  mark-kept t f = let p = and_parts _ _ t in f (eqb-true _ _ p.0) (eqb-true _ _ p.1)
+  mark_kept : marked e ≡ true → (get_or e 0 0 ≡ 81 → get_or e 1 0 ≡ 65 → ⊥) → ⊥
+  mark_kept t f = let p = and_parts _ _ t in f (eqb-true _ _ p.0) (eqb-true _ _ p.1)
 
-  mark-broken : marked e ≡ false → Faulty e 2
-  mark-broken t = mark (λ q a. both_ways (marked e) t (let p = eq-eqb _ _ q in let r = eq-eqb _ _ a in (λ i. p i && r i)))
+  mark_broken : marked e ≡ false → Faulty e 2
+  mark_broken t = mark (λ q a. both_ways (marked e) t (let p = eq-eqb _ _ q in let r = eq-eqb _ _ a in (λ i. p i && r i)))
 
-  request-byte : (j : ℕ) → request_length e + j < 7 → get_or (drop (request_length e) (take 7 (drop 3 e))) j 0 ≡ get_or e (3 + (request_length e + j)) 0
-  request-byte j h = get_or-drop (request_length e) (take 7 (drop 3 e)) j 0 ∙ get_or-take 7 (drop 3 e) (request_length e + j) 0 h ∙ get_or-drop 3 e (request_length e + j) 0
+  request_byte : (j : ℕ) → request_length e + j < 7 → get_or (drop (request_length e) (take 7 (drop 3 e))) j 0 ≡ get_or e (3 + (request_length e + j)) 0
+  request_byte j h = get_or-drop (request_length e) (take 7 (drop 3 e)) j 0 ∙ get_or-take 7 (drop 3 e) (request_length e + j) 0 h ∙ get_or-drop 3 e (request_length e + j) 0
 
-  padding-kept : padded e ≡ true → (i : ℕ) → request_length e ≤ i → i < 7 → get_or e (3 + i) 0 ≡ 0
-  padding-kept t i low high =
+  padding_kept : padded e ≡ true → (i : ℕ) → request_length e ≤ i → i < 7 → get_or e (3 + i) 0 ≡ 0
+  padding_kept t i low high =
       let n = request_length e in
       let at : n + (i - n) ≡ i = omega arith in
       let within : n + (i - n) < 7 = omega arith in
-      ap (λ k. get_or e (3 + k) 0) (sym at) ∙ sym (request-byte (i - n) within) ∙ zeros-all _ t (i - n)
+      ap (λ k. get_or e (3 + k) 0) (sym at) ∙ sym (request_byte (i - n) within) ∙ zeros_all _ t (i - n)
 
-  padding-broken : padded e ≡ false → Faulty e 3
-  padding-broken t =
+  padding_broken : padded e ≡ false → Faulty e 3
+  padding_broken t =
       let n = request_length e in
-      let r = zeros-not (drop n (take 7 (drop 3 e))) t in
+      let r = zeros_not (drop n (take 7 (drop 3 e))) t in
       let within : n + r.0 < 7 = omega (arith, r.1, length-drop n (take 7 (drop 3 e)), length-take 7 (drop 3 e)) in
-      padding (n + r.0) (omega arith) within (λ z. r.2 (request-byte r.0 within ∙ z))
+      padding (n + r.0) (omega arith) within (λ z. r.2 (request_byte r.0 within ∙ z))
 
-sized-kept : (n : ℕ) → sized n ≡ true → (1 ≤ n → n ≤ 7 → ⊥) → ⊥
-sized-kept n t f = let p = and_parts _ _ t in f (leb-true _ _ p.0) (leb-true _ _ p.1)
+sized_kept : (n : ℕ) → sized n ≡ true → (1 ≤ n → n ≤ 7 → ⊥) → ⊥
+sized_kept n t f = let p = and_parts _ _ t in f (leb-true _ _ p.0) (leb-true _ _ p.1)
 
-sized-broken : (n : ℕ) → sized n ≡ false → 1 ≤ n → n ≤ 7 → ⊥
-sized-broken n t low high = both_ways (sized n) t (let p = le-leb 1 n low in let q = le-leb n 7 high in (λ i. p i && q i))
+sized_broken : (n : ℕ) → sized n ≡ false → 1 ≤ n → n ≤ 7 → ⊥
+sized_broken n t low high = both_ways (sized n) t (let p = le-leb 1 n low in let q = le-leb n 7 high in (λ i. p i && q i))
 
-range-broken : (e : List ℕ) → (sized (request_length e) && sized (reply_count e)) ≡ false → Faulty e 6
-range-broken e t = ⊎_elim (λ a. request (sized-broken _ a)) (λ b. reply (sized-broken _ b)) (and_cases _ _ t)
+range_broken : (e : List ℕ) → (sized (request_length e) && sized (reply_count e)) ≡ false → Faulty e 6
+range_broken e t = ⊎_elim (λ a. request (sized_broken _ a)) (λ b. reply (sized_broken _ b)) (and_cases _ _ t)
 
 -- the least number of a broken rule, by what is kept
-from-2 : {e : List ℕ} {m : ℕ} → Faulty e m → 2 ≤ m
-from-2 (mark f) = lit≤ tt
-from-2 (padding i l h f) = lit≤ tt
-from-2 (request f) = lit≤ tt
-from-2 (reply f) = lit≤ tt
+from_2 : {e : List ℕ} {m : ℕ} → Faulty e m → 2 ≤ m
+from_2 (mark f) = lit≤ tt
+from_2 (padding i l h f) = lit≤ tt
+from_2 (request f) = lit≤ tt
+from_2 (reply f) = lit≤ tt
 
-from-3 : {e : List ℕ} {m : ℕ} → marked e ≡ true → Faulty e m → 3 ≤ m
-from-3 {e} t (mark f) = absurd (mark-kept e t f)
-from-3 t (padding i l h f) = lit≤ tt
-from-3 t (request f) = lit≤ tt
-from-3 t (reply f) = lit≤ tt
+from_3 : {e : List ℕ} {m : ℕ} → marked e ≡ true → Faulty e m → 3 ≤ m
+from_3 {e} t (mark f) = absurd (mark_kept e t f)
+from_3 t (padding i l h f) = lit≤ tt
+from_3 t (request f) = lit≤ tt
+from_3 t (reply f) = lit≤ tt
 
-from-6 : {e : List ℕ} {m : ℕ} → marked e ≡ true → padded e ≡ true → Faulty e m → 6 ≤ m
-from-6 {e} t p (mark f) = absurd (mark-kept e t f)
-from-6 {e} t p (padding i l h f) = absurd (f (padding-kept e p i l h))
-from-6 t p (request f) = lit≤ tt
-from-6 t p (reply f) = lit≤ tt
+from_6 : {e : List ℕ} {m : ℕ} → marked e ≡ true → padded e ≡ true → Faulty e m → 6 ≤ m
+from_6 {e} t p (mark f) = absurd (mark_kept e t f)
+from_6 {e} t p (padding i l h f) = absurd (f (padding_kept e p i l h))
+from_6 t p (request f) = lit≤ tt
+from_6 t p (reply f) = lit≤ tt
 
 none_left : {e : List ℕ} {m : ℕ} → marked e ≡ true → padded e ≡ true → (sized (request_length e) && sized (reply_count e)) ≡ true → Faulty e m → ⊥
-none_left {e} t p s (mark f) = mark-kept e t f
-none_left {e} t p s (padding i l h f) = f (padding-kept e p i l h)
-none_left {e} t p s (request f) = sized-kept (request_length e) (and_parts _ _ s).0 f
-none_left {e} t p s (reply f) = sized-kept (reply_count e) (and_parts _ _ s).1 f
+none_left {e} t p s (mark f) = mark_kept e t f
+none_left {e} t p s (padding i l h f) = f (padding_kept e p i l h)
+none_left {e} t p s (request f) = sized_kept (request_length e) (and_parts _ _ s).0 f
+none_left {e} t p s (reply f) = sized_kept (reply_count e) (and_parts _ _ s).1 f
 
 -- what a verdict on entry k owes
 abbrev Right : ℕ → List ℕ → Option Refusal → Type 0
@@ -94,12 +94,12 @@ Right k e (Some x) = (x.at ≡ k) × Faulty e (reason_number x.reason) × ((m : 
 by_tests : (k : ℕ) (e : List ℕ) (a b c : Bool) → marked e ≡ a → padded e ≡ b → (sized (request_length e) && sized (reply_count e)) ≡ c →
     Right k e (cond a (cond b (cond c None (Some (refused (Link Range) k))) (Some (refused (Link Padding) k))) (Some (refused (Link Mark) k)))
 by_tests k e true true true p q r = λ m f. none_left p q r f
-by_tests k e true true false p q r = (refl, range-broken e r, λ m f. from-6 p q f)
-by_tests k e true false c p q r = (refl, padding-broken e q, λ m f. from-3 p f)
-by_tests k e false b c p q r = (refl, mark-broken e p, λ m f. from-2 f)
+by_tests k e true true false p q r = (refl, range_broken e r, λ m f. from_6 p q f)
+by_tests k e true false c p q r = (refl, padding_broken e q, λ m f. from_3 p f)
+by_tests k e false b c p q r = (refl, mark_broken e p, λ m f. from_2 f)
 
-wrong-right : (k : ℕ) (e : List ℕ) → Right k e (wrong k e)
-wrong-right k e = by_tests k e (marked e) (padded e) (sized (request_length e) && sized (reply_count e)) refl refl refl
+wrong_right : (k : ℕ) (e : List ℕ) → Right k e (wrong k e)
+wrong_right k e = by_tests k e (marked e) (padded e) (sized (request_length e) && sized (reply_count e)) refl refl refl
 
 -- what a verdict on entries numbered from k owes
 abbrev AllRight : ℕ → List (List ℕ) → Option Refusal → Type 0
@@ -107,80 +107,80 @@ AllRight k es None = (i m : ℕ) → i < length es → Faulty (get_or es i []) m
 AllRight k es (Some x) = (i : ℕ) × (i < length es) × (x.at ≡ k + i) × Faulty (get_or es i []) (reason_number x.reason)
     × ((j m : ℕ) → j < length es → Faulty (get_or es j []) m → (i < j) ⊎ ((i ≡ j) × (reason_number x.reason ≤ m)))
 
-later-none : (k : ℕ) (e : List ℕ) (es : List (List ℕ)) → ((m : ℕ) → Faulty e m → ⊥) → ((i m : ℕ) → i < length es → Faulty (get_or es i []) m → ⊥) → (i m : ℕ) → i < suc (length es) → Faulty (get_or (e ∷ es) i []) m → ⊥
-later-none k e es here rest zero m h f = here m f
-later-none k e es here rest (suc i) m h f = rest i m (omega arith) f
+later_none : (k : ℕ) (e : List ℕ) (es : List (List ℕ)) → ((m : ℕ) → Faulty e m → ⊥) → ((i m : ℕ) → i < length es → Faulty (get_or es i []) m → ⊥) → (i m : ℕ) → i < suc (length es) → Faulty (get_or (e ∷ es) i []) m → ⊥
+later_none k e es here rest zero m h f = here m f
+later_none k e es here rest (suc i) m h f = rest i m (omega arith) f
 
-here-first : (n : ℕ) (e : List ℕ) (es : List (List ℕ)) → ((m : ℕ) → Faulty e m → n ≤ m) → (j m : ℕ) → Faulty (get_or (e ∷ es) j []) m → (0 < j) ⊎ ((0 ≡ j) × (n ≤ m))
-here-first n e es least zero m f = inr (refl, least m f)
-here-first n e es least (suc j) m f = inl (omega arith)
+here_first : (n : ℕ) (e : List ℕ) (es : List (List ℕ)) → ((m : ℕ) → Faulty e m → n ≤ m) → (j m : ℕ) → Faulty (get_or (e ∷ es) j []) m → (0 < j) ⊎ ((0 ≡ j) × (n ≤ m))
+here_first n e es least zero m f = inr (refl, least m f)
+here_first n e es least (suc j) m f = inl (omega arith)
 
 later_first : (n i : ℕ) (e : List ℕ) (es : List (List ℕ)) → ((m : ℕ) → Faulty e m → ⊥) → ((j m : ℕ) → j < length es → Faulty (get_or es j []) m → (i < j) ⊎ ((i ≡ j) × (n ≤ m))) →
     (j m : ℕ) → j < suc (length es) → Faulty (get_or (e ∷ es) j []) m → (suc i < j) ⊎ ((suc i ≡ j) × (n ≤ m))
 later_first n i e es none rest zero m h f = absurd (none m f)
 later_first n i e es none rest (suc j) m h f = ⊎_elim (λ l. inl (omega arith)) (λ r. inr (ap suc r.0, r.1)) (rest j m (omega arith) f)
 
-judged-step : (k : ℕ) (e : List ℕ) (es : List (List ℕ)) (o p : Option Refusal) → Right k e o → AllRight (k + 1) es p → AllRight k (e ∷ es) (or_else o p)
-judged-step k e es (Some x) p r a =
+judged_step : (k : ℕ) (e : List ℕ) (es : List (List ℕ)) (o p : Option Refusal) → Right k e o → AllRight (k + 1) es p → AllRight k (e ∷ es) (or_else o p)
+judged_step k e es (Some x) p r a =
     let at : x.at ≡ k + 0 = omega (arith, r.0) in
-    (0, omega arith, at, r.1, λ j m h f. here-first (reason_number x.reason) e es r.2 j m f)
-judged-step k e es None None r a = later-none k e es r a
-judged-step k e es None (Some x) r a =
+    (0, omega arith, at, r.1, λ j m h f. here_first (reason_number x.reason) e es r.2 j m f)
+judged_step k e es None None r a = later_none k e es r a
+judged_step k e es None (Some x) r a =
     let at : x.at ≡ k + suc a.0 = omega (arith, a.2) in
     (suc a.0, omega (arith, a.1), at, a.3, later_first (reason_number x.reason) a.0 e es r a.4)
 
-judged-right : (k : ℕ) (es : List (List ℕ)) → AllRight k es (judged k es)
-judged-right k [] = λ i m h f. absurd (omega arith)
-judged-right k (e ∷ es) = judged-step k e es (wrong k e) (judged (k + 1) es) (wrong-right k e) (judged-right (k + 1) es)
+judged_right : (k : ℕ) (es : List (List ℕ)) → AllRight k es (judged k es)
+judged_right k [] = λ i m h f. absurd (omega arith)
+judged_right k (e ∷ es) = judged_step k e es (wrong k e) (judged (k + 1) es) (wrong_right k e) (judged_right (k + 1) es)
 
 module _ (bs : List ℕ) where
   record_of : (k : ℕ) → 1 ≤ k → k ≤ length bs / 18 → get_or (records_of bs) (k - 1) [] ≡ record_at bs k
   record_of k some within =
       let e : k - 1 + 1 ≡ k = omega arith in
-      get_or-record_at (length bs / 18) bs (k - 1) (omega arith) ∙ ap (record_at bs) e
+      get_or-records (length bs / 18) bs (k - 1) (omega arith) ∙ ap (record_at bs) e
 
-  faulty-at : {m : ℕ} (k : ℕ) → 1 ≤ k → k ≤ length bs / 18 → Faulty (record_at bs k) m → Faulty (get_or (records_of bs) (k - 1) []) m
-  faulty-at {m} k some within f = subst (λ e. Faulty e m) (sym (record_of k some within)) f
+  faulty_at : {m : ℕ} (k : ℕ) → 1 ≤ k → k ≤ length bs / 18 → Faulty (record_at bs k) m → Faulty (get_or (records_of bs) (k - 1) []) m
+  faulty_at {m} k some within f = subst (λ e. Faulty e m) (sym (record_of k some within)) f
 
   listed : (k : ℕ) → 1 ≤ k → k ≤ length bs / 18 → k - 1 < length (records_of bs)
   listed k some within = omega (arith, length-records (length bs / 18) bs)
 
   -- the wrong size goes before all else
-  size-first : {j m : ℕ} → Broken bs j m → (0 < j) ⊎ ((0 ≡ j) × (1 ≤ m))
-  size-first (size f) = inr (refl, lit≤ tt)
-  size-first (entry k n some within f) = inl some
+  size_first : {j m : ℕ} → Broken bs j m → (0 < j) ⊎ ((0 ≡ j) × (1 ≤ m))
+  size_first (size f) = inr (refl, lit≤ tt)
+  size_first (entry k n some within f) = inl some
 
   module _ (sound : length bs % 18 ≡ 0) (few : length bs / 18 ≤ 2000) where
-    none-broken : AllRight 1 (records_of bs) None → {j m : ℕ} → Broken bs j m → ⊥
-    none-broken a (size f) = f sound few
-    none-broken a (entry k n some within f) = a (k - 1) n (listed k some within) (faulty-at k some within f)
+    none_broken : AllRight 1 (records_of bs) None → {j m : ℕ} → Broken bs j m → ⊥
+    none_broken a (size f) = f sound few
+    none_broken a (entry k n some within f) = a (k - 1) n (listed k some within) (faulty_at k some within f)
 
-    before-all : (n i k : ℕ) → k ≡ 1 + i → ((j m : ℕ) → j < length (records_of bs) → Faulty (get_or (records_of bs) j []) m → (i < j) ⊎ ((i ≡ j) × (n ≤ m))) →
+    before_all : (n i k : ℕ) → k ≡ 1 + i → ((j m : ℕ) → j < length (records_of bs) → Faulty (get_or (records_of bs) j []) m → (i < j) ⊎ ((i ≡ j) × (n ≤ m))) →
         {j m : ℕ} → Broken bs j m → (k < j) ⊎ ((k ≡ j) × (n ≤ m))
-    before-all n i k e a (size f) = absurd (f sound few)
-    before-all n i k e a (entry j m some within f) =
+    before_all n i k e a (size f) = absurd (f sound few)
+    before_all n i k e a (entry j m some within f) =
         ⊎_elim
         (λ l. inl (omega (arith, l)))
         (λ r. let same : k ≡ j = omega (arith, r.0) in inr (same, r.1))
-        (a (j - 1) m (listed j some within) (faulty-at j some within f))
+        (a (j - 1) m (listed j some within) (faulty_at j some within f))
 
-    entries-judged : (o : Option Refusal) → AllRight 1 (records_of bs) o → Judged bs (counted (length bs / 18) o)
-    entries-judged None a = (refl, λ j m b. none-broken a b)
-    entries-judged (Some x) a =
+    entries_judged : (o : Option Refusal) → AllRight 1 (records_of bs) o → Judged bs (counted (length bs / 18) o)
+    entries_judged None a = (refl, λ j m b. none_broken a b)
+    entries_judged (Some x) a =
         let i = a.0 in
         let low : 1 ≤ x.at = omega (arith, a.2) in
         let high : x.at ≤ length bs / 18 = omega (arith, a.1, a.2, length-records (length bs / 18) bs) in
         let same : i ≡ x.at - 1 = omega (arith, a.2) in
         let f : Faulty (record_at bs x.at) (reason_number x.reason) = subst (λ e. Faulty e (reason_number x.reason)) (ap (λ k. get_or (records_of bs) k []) same ∙ record_of x.at low high) a.3 in
-        (entry x.at (reason_number x.reason) low high f, λ j m b. before-all (reason_number x.reason) i x.at a.2 a.4 b)
+        (entry x.at (reason_number x.reason) low high f, λ j m b. before_all (reason_number x.reason) i x.at a.2 a.4 b)
 
   by_size : (whole : Bool) → (eqb (length bs % 18) 0 && leb (length bs / 18) 2000) ≡ whole →
       Judged bs (counted (length bs / 18) (cond whole (judged 1 (records_of bs)) (Some (refused (Link Size) 0))))
   by_size true e =
       let p = and_parts _ _ e in
-      entries-judged (eqb-true _ _ p.0) (leb-true _ _ p.1) (judged 1 (records_of bs)) (judged-right 1 (records_of bs))
+      entries_judged (eqb-true _ _ p.0) (leb-true _ _ p.1) (judged 1 (records_of bs)) (judged_right 1 (records_of bs))
   by_size false e =
-      (size (λ a b. both_ways _ e (let p = eq-eqb _ _ a in let q = le-leb _ _ b in (λ i. p i && q i))), λ j m b. size-first b)
+      (size (λ a b. both_ways _ e (let p = eq-eqb _ _ a in let q = le-leb _ _ b in (λ i. p i && q i))), λ j m b. size_first b)
 
-  pub verdict-judged : Judged bs (verdict bs)
-  verdict-judged = by_size (eqb (length bs % 18) 0 && leb (length bs / 18) 2000) refl
+  pub verdict_judged : Judged bs (verdict bs)
+  verdict_judged = by_size (eqb (length bs % 18) 0 && leb (length bs / 18) 2000) refl

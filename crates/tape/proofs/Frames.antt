@@ -3,7 +3,7 @@ use Rattle.std.proofs.Common.{◌≡◌, ℕ, suc, ◌+◌, ◌/◌, ◌%◌, �
 use Rattle.std.proofs.lemmas.List.{ext_get_or, get_or-take, get_or-drop, length-take, length-drop, take-take}
 use Rattle.std.proofs.lemmas.Slice.Eq.{bytes_eq-Decides}
 use Rattle.buffers.specs.Records.{records_of, record_at}
-use Rattle.buffers.proofs.Cuts.{length-records, get_or-record_at, length-record}
+use Rattle.buffers.proofs.Cuts.{length-records, get_or-records, length-record_at}
 use Rattle.link.specs.Cars.{silence, reply}
 use Rattle.link.specs.Visits.{answers}
 use Rattle.refusal.specs.Refusals.{refused}
@@ -16,17 +16,17 @@ use Rattle.tape.specs.Fills.{OnlyFill}
 
 -- the first n of m bytes from a on, where two entries agree
 module _ (e f : List ℕ) (long : length e ≡ length f) (a m n : ℕ) (same : (j : ℕ) → j < n → j < m → get_or e (a + j) 0 ≡ get_or f (a + j) 0) where
-  get_or-part : (l : List ℕ) (j : ℕ) → j < n → j < m → get_or (take n (take m (drop a l))) j 0 ≡ get_or l (a + j) 0
-  get_or-part l j p q = get_or-take n (take m (drop a l)) j 0 p ∙ get_or-take m (drop a l) j 0 q ∙ get_or-drop a l j 0
+  get_or_part : (l : List ℕ) (j : ℕ) → j < n → j < m → get_or (take n (take m (drop a l))) j 0 ≡ get_or l (a + j) 0
+  get_or_part l j p q = get_or-take n (take m (drop a l)) j 0 p ∙ get_or-take m (drop a l) j 0 q ∙ get_or-drop a l j 0
 
-  parts-agree : take n (take m (drop a e)) ≡ take n (take m (drop a f))
-  parts-agree =
+  parts_agree : take n (take m (drop a e)) ≡ take n (take m (drop a f))
+  parts_agree =
       let le : length (take n (take m (drop a e))) ≡ length (take n (take m (drop a f))) = simp (length-take, length-drop) (omega arith) in
       ext_get_or 0 _ _ le (λ j h.
       let s : j < length (take n (take m (drop a e))) = h in
       let p : j < n = omega (arith, length-take n (take m (drop a e))) in
       let q : j < m = omega (arith, length-take n (take m (drop a e)), length-take m (drop a e)) in
-      get_or-part e j p q ∙ same j p q ∙ sym (get_or-part f j p q))
+      get_or_part e j p q ∙ same j p q ∙ sym (get_or_part f j p q))
 
 -- two entries that differ only in fill are judged alike, and say the same
 module _ (e f : List ℕ) (le : length e ≡ 18) (lf : length f ≡ 18) (same : (i : ℕ) → i < 18 → i < 11 + reply_count e → get_or e i 0 ≡ get_or f i 0) where
@@ -36,14 +36,14 @@ module _ (e f : List ℕ) (le : length e ≡ 18) (lf : length f ≡ 18) (same : 
   requests : take 7 (drop 3 e) ≡ take 7 (drop 3 f)
   requests =
       sym (take-take 7 7 (drop 3 e) (lit≤ tt))
-      ∙ parts-agree e f (le ∙ sym lf) 3 7 7 (λ j p q. head (3 + j) (omega arith))
+      ∙ parts_agree e f (le ∙ sym lf) 3 7 7 (λ j p q. head (3 + j) (omega arith))
       ∙ take-take 7 7 (drop 3 f) (lit≤ tt)
 
   replies : take (reply_count e) (take 7 (drop 11 e)) ≡ take (reply_count e) (take 7 (drop 11 f))
-  replies = parts-agree e f (le ∙ sym lf) 11 7 (reply_count e) (λ j p q. same (11 + j) (omega arith) (omega arith))
+  replies = parts_agree e f (le ∙ sym lf) 11 7 (reply_count e) (λ j p q. same (11 + j) (omega arith) (omega arith))
 
-  wrong-same : (k : ℕ) → wrong k e ≡ wrong k f
-  wrong-same k =
+  wrong_same : (k : ℕ) → wrong k e ≡ wrong k f
+  wrong_same k =
       let m0 = head 0 (lit< tt) in
       let m1 = head 1 (lit< tt) in
       let asked = head 2 (lit< tt) in
@@ -55,8 +55,8 @@ module _ (e f : List ℕ) (le : length e ≡ 18) (lf : length f ≡ 18) (same : 
       (Some (refused (Link Padding) k)))
       (Some (refused (Link Mark) k))
 
-  exchange-same : exchange_of e ≡ exchange_of f
-  exchange-same =
+  exchange_same : exchange_of e ≡ exchange_of f
+  exchange_same =
       let asked = head 2 (lit< tt) in
       let given = head 10 (lit< tt) in
       let reply = replies ∙ ap (λ n. take n (take 7 (drop 11 f))) given in
@@ -67,30 +67,30 @@ pub record Same (e f : List ℕ) : Type 0 where
   pub wrongs : (k : ℕ) → wrong k e ≡ wrong k f
   pub exchanges : exchange_of e ≡ exchange_of f
 
-judged-same : (k : ℕ) (es fs : List (List ℕ)) → length es ≡ length fs → ((i : ℕ) → i < length es → Same (get_or es i []) (get_or fs i [])) → judged k es ≡ judged k fs
-judged-same k [] [] l s = refl
-judged-same k [] (f ∷ fs) l s = absurd (omega arith)
-judged-same k (e ∷ es) [] l s = absurd (omega arith)
-judged-same k (e ∷ es) (f ∷ fs) l s =
+judged_same : (k : ℕ) (es fs : List (List ℕ)) → length es ≡ length fs → ((i : ℕ) → i < length es → Same (get_or es i []) (get_or fs i [])) → judged k es ≡ judged k fs
+judged_same k [] [] l s = refl
+judged_same k [] (f ∷ fs) l s = absurd (omega arith)
+judged_same k (e ∷ es) [] l s = absurd (omega arith)
+judged_same k (e ∷ es) (f ∷ fs) l s =
     let here = (s 0 (omega arith)).wrongs k in
-    let rest = judged-same (k + 1) es fs (omega arith) (λ i h. s (suc i) (omega arith)) in
+    let rest = judged_same (k + 1) es fs (omega arith) (λ i h. s (suc i) (omega arith)) in
     λ t. or_else (here t) (rest t)
 
-exchanges-same : (es fs : List (List ℕ)) → length es ≡ length fs → ((i : ℕ) → i < length es → Same (get_or es i []) (get_or fs i [])) → map exchange_of es ≡ map exchange_of fs
-exchanges-same [] [] l s = refl
-exchanges-same [] (f ∷ fs) l s = absurd (omega arith)
-exchanges-same (e ∷ es) [] l s = absurd (omega arith)
-exchanges-same (e ∷ es) (f ∷ fs) l s =
+exchanges_same : (es fs : List (List ℕ)) → length es ≡ length fs → ((i : ℕ) → i < length es → Same (get_or es i []) (get_or fs i [])) → map exchange_of es ≡ map exchange_of fs
+exchanges_same [] [] l s = refl
+exchanges_same [] (f ∷ fs) l s = absurd (omega arith)
+exchanges_same (e ∷ es) [] l s = absurd (omega arith)
+exchanges_same (e ∷ es) (f ∷ fs) l s =
     let here = (s 0 (omega arith)).exchanges in
-    let rest = exchanges-same es fs (omega arith) (λ i h. s (suc i) (omega arith)) in
+    let rest = exchanges_same es fs (omega arith) (λ i h. s (suc i) (omega arith)) in
     λ t. here t ∷ rest t
 
 module _ (bs cs : List ℕ) (only : OnlyFill bs cs) where
   as_many : length bs / 18 ≡ length cs / 18
   as_many = ap (λ n. n / 18) only.size
 
-  lists-long : length (records_of bs) ≡ length (records_of cs)
-  lists-long = length-records _ bs ∙ as_many ∙ sym (length-records _ cs)
+  lists_long : length (records_of bs) ≡ length (records_of cs)
+  lists_long = length-records _ bs ∙ as_many ∙ sym (length-records _ cs)
 
   each_same : (i : ℕ) → i < length (records_of bs) → Same (get_or (records_of bs) i []) (get_or (records_of cs) i [])
   each_same i h =
@@ -100,26 +100,26 @@ module _ (bs cs : List ℕ) (only : OnlyFill bs cs) where
       let high' : i + 1 ≤ length cs / 18 = omega (arith, as_many) in
       let e = record_at bs (i + 1) in
       let f = record_at cs (i + 1) in
-      let le = length-record bs (i + 1) low high in
-      let lf = length-record cs (i + 1) low high' in
+      let le = length-record_at bs (i + 1) low high in
+      let lf = length-record_at cs (i + 1) low high' in
       let same : (j : ℕ) → j < 18 → j < 11 + reply_count e → get_or e j 0 ≡ get_or f j 0 = λ j p q. only.bytes (i + 1) j low high p q in
-      let s : Same e f = record { wrongs = wrong-same e f le lf same; exchanges = exchange-same e f le lf same } in
-      let at = get_or-record_at n bs i (omega arith) in
-      let at' = get_or-record_at (length cs / 18) cs i (omega arith) in
+      let s : Same e f = record { wrongs = wrong_same e f le lf same; exchanges = exchange_same e f le lf same } in
+      let at = get_or-records n bs i (omega arith) in
+      let at' = get_or-records (length cs / 18) cs i (omega arith) in
       subst (λ x. Same x (get_or (records_of cs) i [])) (sym at) (subst (Same e) (sym at') s)
 
-  refusal-same : refusal_of bs ≡ refusal_of cs
-  refusal-same =
-      let j = judged-same 1 (records_of bs) (records_of cs) lists-long each_same in
+  refusal_same : refusal_of bs ≡ refusal_of cs
+  refusal_same =
+      let j = judged_same 1 (records_of bs) (records_of cs) lists_long each_same in
       λ t. cond (eqb (only.size t % 18) 0 && leb (only.size t / 18) 2000) (j t) (Some (refused (Link Size) 0))
 
-  pub verdict-same : verdict bs ≡ verdict cs
-  verdict-same = λ t. counted (only.size t / 18) (refusal-same t)
+  pub verdict_same : verdict bs ≡ verdict cs
+  verdict_same = λ t. counted (only.size t / 18) (refusal_same t)
 
-  pub opened-same : (s : Standing) → opened bs s ≡ opened cs s
-  opened-same s =
-      let x = exchanges-same (records_of bs) (records_of cs) lists-long each_same in
-      λ t. unless_refused (refusal-same t) (x t) s
+  pub opened_same : (s : Standing) → opened bs s ≡ opened cs s
+  opened_same s =
+      let x = exchanges_same (records_of bs) (records_of cs) lists_long each_same in
+      λ t. unless_refused (refusal_same t) (x t) s
 
 -- the requests of a tape, in order, get its replies, in order
 pub replays : (es : List Exchange) → Replays es

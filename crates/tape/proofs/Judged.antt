@@ -11,44 +11,44 @@ use Rattle.refusal.specs.declared.refusals.Refusal.{Refusal}
 use Rattle.tape.specs.Entries.{marked, padded, sized, request_length, reply_count, Fit, Exchange, exchange_of}
 use Rattle.tape.specs.Judgement.{judged, wrong, or_else, passed, counted, refusal_of}
 
-pub passed-err : (o : Option Refusal) (x : Refusal) → passed o ≡ Err x → o ≡ Some x
-passed-err None x e = let z : ◌≡◌ {A = ℕ} 0 1 = cc in absurd (omega arith)
-passed-err (Some y) x e = cc
+pub passed_err : (o : Option Refusal) (x : Refusal) → passed o ≡ Err x → o ≡ Some x
+passed_err None x e = let z : ◌≡◌ {A = ℕ} 0 1 = cc in absurd (omega arith)
+passed_err (Some y) x e = cc
 
 pub passed_ok : (o : Option Refusal) → passed o ≡ Ok tt → o ≡ None
 passed_ok None e = refl
 passed_ok (Some y) e = let z : ◌≡◌ {A = ℕ} 0 1 = cc in absurd (omega arith)
 
-pub counted-err : (n : ℕ) (o : Option Refusal) (x : Refusal) → counted n o ≡ Err x → o ≡ Some x
-counted-err n None x e = let z : ◌≡◌ {A = ℕ} 0 1 = cc in absurd (omega arith)
-counted-err n (Some y) x e = cc
+pub counted_err : (n : ℕ) (o : Option Refusal) (x : Refusal) → counted n o ≡ Err x → o ≡ Some x
+counted_err n None x e = let z : ◌≡◌ {A = ℕ} 0 1 = cc in absurd (omega arith)
+counted_err n (Some y) x e = cc
 
-pub counted-ok : (n : ℕ) (o : Option Refusal) (m : ℕ) → counted n o ≡ Ok m → o ≡ None
-counted-ok n None m e = refl
-counted-ok n (Some y) m e = let z : ◌≡◌ {A = ℕ} 0 1 = cc in absurd (omega arith)
+pub counted_ok : (n : ℕ) (o : Option Refusal) (m : ℕ) → counted n o ≡ Ok m → o ≡ None
+counted_ok n None m e = refl
+counted_ok n (Some y) m e = let z : ◌≡◌ {A = ℕ} 0 1 = cc in absurd (omega arith)
 
 -- the judgement of the entry at i comes before that of the rest
 module _ (rs : List (List ℕ)) (i : ℕ) (within : i < length rs) (e : List ℕ) (is : e ≡ get_or rs i []) where
-  judged-at : judged (i + 1) (drop i rs) ≡ or_else (wrong (i + 1) e) (judged (i + 1 + 1) (drop (i + 1) rs))
-  judged-at =
+  judged_at : judged (i + 1) (drop i rs) ≡ or_else (wrong (i + 1) e) (judged (i + 1 + 1) (drop (i + 1) rs))
+  judged_at =
       let step : judged (i + 1) (drop i rs) ≡ or_else (wrong (i + 1) (get_or rs i [])) (judged (i + 1 + 1) (drop (i + 1) rs)) = at_drop_more (judged (i + 1)) rs i [] within in
       step ∙ ap (λ r. or_else (wrong (i + 1) r) (judged (i + 1 + 1) (drop (i + 1) rs))) (sym is)
 
-  pub judged-wrong : (x : Refusal) → wrong (i + 1) e ≡ Some x → judged (i + 1) (drop i rs) ≡ Some x
-  judged-wrong x w = judged-at ∙ ap (λ o. or_else o (judged (i + 1 + 1) (drop (i + 1) rs))) w
+  pub judged_wrong : (x : Refusal) → wrong (i + 1) e ≡ Some x → judged (i + 1) (drop i rs) ≡ Some x
+  judged_wrong x w = judged_at ∙ ap (λ o. or_else o (judged (i + 1 + 1) (drop (i + 1) rs))) w
 
-  pub judged-right : wrong (i + 1) e ≡ None → judged (i + 1) (drop i rs) ≡ judged (i + 1 + 1) (drop (i + 1) rs)
-  judged-right w = judged-at ∙ ap (λ o. or_else o (judged (i + 1 + 1) (drop (i + 1) rs))) w
+  pub judged_right : wrong (i + 1) e ≡ None → judged (i + 1) (drop i rs) ≡ judged (i + 1 + 1) (drop (i + 1) rs)
+  judged_right w = judged_at ∙ ap (λ o. or_else o (judged (i + 1 + 1) (drop (i + 1) rs))) w
 
   -- one exchange more
-  pub exchange-more : (xs : List Exchange) (x : Exchange) → xs ≡ map exchange_of (take i rs) → x ≡ exchange_of e → xs ++ x ∷ [] ≡ map exchange_of (take (i + 1) rs)
-  exchange-more xs x p q =
+  pub exchange_more : (xs : List Exchange) (x : Exchange) → xs ≡ map exchange_of (take i rs) → x ≡ exchange_of e → xs ++ x ∷ [] ≡ map exchange_of (take (i + 1) rs)
+  exchange_more xs x p q =
       let at : exchange_of (get_or rs i []) ≡ x = sym (q ∙ ap exchange_of is) in
       let more = map_more exchange_of rs i [] within in
       cc
 
-pub whole-refusal : (bs : List ℕ) → length bs % 18 ≡ 0 → length bs / 18 ≤ 2000 → refusal_of bs ≡ judged 1 (records_of bs)
-whole-refusal bs e h = cond-true _ _ _ (and_from _ _ (eq-eqb _ _ e) (le-leb _ _ h))
+pub whole_refusal : (bs : List ℕ) → length bs % 18 ≡ 0 → length bs / 18 ≤ 2000 → refusal_of bs ≡ judged 1 (records_of bs)
+whole_refusal bs e h = cond-true _ _ _ (and_from _ _ (eq-eqb _ _ e) (le-leb _ _ h))
 
 -- No refusal: each entry has its lengths in range.
 pub or_else_none : (a b : Option Refusal) → or_else a b ≡ None → (a ≡ None) × (b ≡ None)
@@ -61,12 +61,12 @@ third true true false x y z e = let z : ◌≡◌ {A = ℕ} 0 1 = cc in absurd (
 third true false c x y z e = let z : ◌≡◌ {A = ℕ} 0 1 = cc in absurd (omega arith)
 third false b c x y z e = let z : ◌≡◌ {A = ℕ} 0 1 = cc in absurd (omega arith)
 
-fit-from-wrong : (k : ℕ) (r : List ℕ) → wrong k r ≡ None → Fit r
-fit-from-wrong k r e = and_parts _ _ (third (marked r) (padded r) (sized (request_length r) && sized (reply_count r)) (refused (Link Range) k) (refused (Link Padding) k) (refused (Link Mark) k) e)
+fit_from_wrong : (k : ℕ) (r : List ℕ) → wrong k r ≡ None → Fit r
+fit_from_wrong k r e = and_parts _ _ (third (marked r) (padded r) (sized (request_length r) && sized (reply_count r)) (refused (Link Range) k) (refused (Link Padding) k) (refused (Link Mark) k) e)
 
 fit_at : (rs : List (List ℕ)) (k i : ℕ) → judged k rs ≡ None → i < length rs → Fit (get_or rs i [])
 fit_at [] k i e h = absurd (omega arith)
-fit_at (r ∷ rs) k zero e h = fit-from-wrong k r (or_else_none _ _ e).0
+fit_at (r ∷ rs) k zero e h = fit_from_wrong k r (or_else_none _ _ e).0
 fit_at (r ∷ rs) k (suc i) e h = fit_at rs (k + 1) i (or_else_none _ _ e).1 (omega arith)
 
 whole : (a b : Bool) (o : Option Refusal) (x : Refusal) → cond (a && b) o (Some x) ≡ None → (a ≡ true) × (b ≡ true) × (o ≡ None)
@@ -74,11 +74,11 @@ whole true true o x e = (refl, refl, e)
 whole true false o x e = let z : ◌≡◌ {A = ℕ} 0 1 = cc in absurd (omega arith)
 whole false b o x e = let z : ◌≡◌ {A = ℕ} 0 1 = cc in absurd (omega arith)
 
-split-refusal : (bs : List ℕ) → refusal_of bs ≡ None → (eqb (length bs % 18) 0 ≡ true) × (leb (length bs / 18) 2000 ≡ true) × (judged 1 (records_of bs) ≡ None)
-split-refusal bs e = whole (eqb (length bs % 18) 0) (leb (length bs / 18) 2000) (judged 1 (records_of bs)) (refused (Link Size) 0) e
+split_refusal : (bs : List ℕ) → refusal_of bs ≡ None → (eqb (length bs % 18) 0 ≡ true) × (leb (length bs / 18) 2000 ≡ true) × (judged 1 (records_of bs) ≡ None)
+split_refusal bs e = whole (eqb (length bs % 18) 0) (leb (length bs / 18) 2000) (judged 1 (records_of bs)) (refused (Link Size) 0) e
 
-pub few-entries : (bs : List ℕ) → refusal_of bs ≡ None → length bs / 18 ≤ 2000
-few-entries bs e = leb-true _ _ (split-refusal bs e).1
+pub few_entries : (bs : List ℕ) → refusal_of bs ≡ None → length bs / 18 ≤ 2000
+few_entries bs e = leb-true _ _ (split_refusal bs e).1
 
-pub entry-fits : (bs : List ℕ) (i : ℕ) → refusal_of bs ≡ None → i < length bs / 18 → Fit (get_or (records_of bs) i [])
-entry-fits bs i e h = fit_at (records_of bs) 1 i (split-refusal bs e).2 (omega (arith, length-records (length bs / 18) bs))
+pub entry_fits : (bs : List ℕ) (i : ℕ) → refusal_of bs ≡ None → i < length bs / 18 → Fit (get_or (records_of bs) i [])
+entry_fits bs i e h = fit_at (records_of bs) 1 i (split_refusal bs e).2 (omega (arith, length-records (length bs / 18) bs))

@@ -13,22 +13,22 @@ module _ (items : List Entry) (i : ℕ) (q : List ℕ) where
   left_at e h r = ap (map exchange) (drop_more items i e h ∙ ap (λ x. x ∷ drop (i + 1) items) (sym r))
 
   -- the entry is the one that is asked for
-  pub answer-same : (e : Entry) → i < length items → e ≡ get_or items i e → bytes_eq (exchange e).asked q ≡ true → answer_of (map exchange (drop i items)) q ≡ reply (exchange e).given
-  answer-same e h r s = ap (λ es. answer_of es q) (left_at e h r) ∙ cond-true _ _ _ s
+  pub answer_same : (e : Entry) → i < length items → e ≡ get_or items i e → bytes_eq (exchange e).asked q ≡ true → answer_of (map exchange (drop i items)) q ≡ reply (exchange e).given
+  answer_same e h r s = ap (λ es. answer_of es q) (left_at e h r) ∙ cond-true _ _ _ s
 
   pub moved_same : (e : Entry) → i < length items → e ≡ get_or items i e → bytes_eq (exchange e).asked q ≡ true → moved (map exchange (drop i items)) q ≡ map exchange (drop (i + 1) items)
   moved_same e h r s = ap (λ es. moved es q) (left_at e h r) ∙ cond-true _ _ _ s
 
   -- it is another
-  pub answer-other : (e : Entry) → i < length items → e ≡ get_or items i e → bytes_eq (exchange e).asked q ≡ false → answer_of (map exchange (drop i items)) q ≡ silence
-  answer-other e h r s = ap (λ es. answer_of es q) (left_at e h r) ∙ cond-false _ _ _ s
+  pub answer_other : (e : Entry) → i < length items → e ≡ get_or items i e → bytes_eq (exchange e).asked q ≡ false → answer_of (map exchange (drop i items)) q ≡ silence
+  answer_other e h r s = ap (λ es. answer_of es q) (left_at e h r) ∙ cond-false _ _ _ s
 
   pub moved_other : (e : Entry) → i < length items → e ≡ get_or items i e → bytes_eq (exchange e).asked q ≡ false → moved (map exchange (drop i items)) q ≡ map exchange (drop i items)
   moved_other e h r s = ap (λ es. moved es q) (left_at e h r) ∙ cond-false _ _ _ s ∙ sym (left_at e h r)
 
   -- there is none
-  pub answer-none : length items ≤ i → answer_of (map exchange (drop i items)) q ≡ silence
-  answer-none h = ap (λ es. answer_of (map exchange es) q) (drop_all i items h)
+  pub answer_none : length items ≤ i → answer_of (map exchange (drop i items)) q ≡ silence
+  answer_none h = ap (λ es. answer_of (map exchange es) q) (drop_all i items h)
 
   pub moved_none : length items ≤ i → moved (map exchange (drop i items)) q ≡ map exchange (drop i items)
   moved_none h = ap (λ es. moved (map exchange es) q) (drop_all i items h) ∙ sym (ap (map exchange) (drop_all i items h))

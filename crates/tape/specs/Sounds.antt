@@ -7,7 +7,7 @@ use Rattle.std.proofs.lemmas.List.{length-take}
 use Rattle.std.proofs.lemmas.Bool.{cond_both}
 use Rattle.buffers.specs.Held.{held}
 use Rattle.buffers.specs.declared.Buffer.{Buffer}
-use Rattle.buffers.proofs.Bounds.{below-take}
+use Rattle.buffers.proofs.Bounds.{Below-take}
 use Rattle.link.specs.Cars.{silence, reply, Proper, Sound, Short}
 use Rattle.tape.specs.Entries.{Exchange}
 use Rattle.tape.specs.Plays.{answer_of, moved, tape_car}
@@ -17,24 +17,24 @@ use Rattle.tape.specs.declared.entries.Entry.{Entry}
 abbrev Good : Exchange → Type 0
 Good e = Proper (reply e.given)
 
-answer-proper : (es : List Exchange) → AllByRecursion Good es → (q : List ℕ) → Proper (answer_of es q)
-answer-proper [] a q = tt
-answer-proper (e ∷ es) a q = cond_both (bytes_eq e.asked q) (reply e.given) silence Proper (λ _. a.0) (λ _. tt)
+answer_proper : (es : List Exchange) → AllByRecursion Good es → (q : List ℕ) → Proper (answer_of es q)
+answer_proper [] a q = tt
+answer_proper (e ∷ es) a q = cond_both (bytes_eq e.asked q) (reply e.given) silence Proper (λ _. a.0) (λ _. tt)
 
-moved-good : (es : List Exchange) → AllByRecursion Good es → (q : List ℕ) → AllByRecursion Good (moved es q)
-moved-good [] a q = tt
-moved-good (e ∷ es) a q = cond_both (bytes_eq e.asked q) es (e ∷ es) (AllByRecursion Good) (λ _. a.1) (λ _. a)
+moved_good : (es : List Exchange) → AllByRecursion Good es → (q : List ℕ) → AllByRecursion Good (moved es q)
+moved_good [] a q = tt
+moved_good (e ∷ es) a q = cond_both (bytes_eq e.asked q) es (e ∷ es) (AllByRecursion Good) (λ _. a.1) (λ _. a)
 
-tape-sound : (es : List Exchange) → AllByRecursion Good es → Sound (tape_car es)
-tape-sound es a [] q = answer-proper es a q
-tape-sound es a (p ∷ ps) q = tape-sound (moved es p) (moved-good es a p) ps q
+tape_sound : (es : List Exchange) → AllByRecursion Good es → Sound (tape_car es)
+tape_sound es a [] q = answer_proper es a q
+tape_sound es a (p ∷ ps) q = tape_sound (moved es p) (moved_good es a p) ps q
 
-pub buffer-short : (b : Buffer 7) → Short (held b)
-buffer-short b = (omega (arith, length-take b.len b.bytes), below-take 256 (lit< tt) b.len b.bytes b.fits)
+pub buffer_short : (b : Buffer 7) → Short (held b)
+buffer_short b = (omega (arith, length-take b.len b.bytes), Below-take 256 (lit< tt) b.len b.bytes b.fits)
 
-all-good : (es : List Entry) → AllByRecursion Good (map exchange es)
-all-good [] = tt
-all-good (e ∷ es) = ((e.answered, (buffer-short e.reply).0, (buffer-short e.reply).1), all-good es)
+all_good : (es : List Entry) → AllByRecursion Good (map exchange es)
+all_good [] = tt
+all_good (e ∷ es) = ((e.answered, (buffer_short e.reply).0, (buffer_short e.reply).1), all_good es)
 
-pub entries-sound : (es : List Entry) → Sound (tape_car (map exchange es))
-entries-sound es = tape-sound (map exchange es) (all-good es)
+pub entries_sound : (es : List Entry) → Sound (tape_car (map exchange es))
+entries_sound es = tape_sound (map exchange es) (all_good es)

@@ -4,7 +4,7 @@ ghost use Rattle.tape.specs.Plays.{Replays, blank, opened, tape_car};
 ghost use Rattle.tape.specs.Fills.{OnlyFill};
 ghost use Rattle.tape.specs.Rules.{Judged};
 ghost use Rattle.tape.specs.Views.{standing};
-ghost use Rattle.tape.specs.Sounds.{entries-sound, buffer-short};
+ghost use Rattle.tape.specs.Sounds.{entries_sound, buffer_short};
 
 use crate::Tape;
 use crate::entries::decode::decode_all;
@@ -49,9 +49,9 @@ impl Link for Tape {
 
     ghost present = { λ t. (standing t).shown };
 
-    ghost sound = { λ x. entries-sound (drop x.place x.entries.items) };
+    ghost sound = { λ x. entries_sound (drop x.place x.entries.items) };
 
-    ghost short = { λ x. buffer-short x.present };
+    ghost short = { λ x. buffer_short x.present };
 
     fn send(&mut self, request: &[u8]) -> bool {
         if self.place < self.entries.len() {

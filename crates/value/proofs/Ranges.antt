@@ -11,14 +11,14 @@ above a b c h = and_right (leb a c) (leb c b) (lt-leb c b h)
 below : (a b c : ℕ) → c < a → (leb a c && leb c b) ≡ false
 below a b c h = and_left (leb a c) (leb c b) (lt-leb a c h)
 
-pub in-comparison : (c : ℕ) (l r : Value) → 5 ≤ c → c ≤ 8 → evaluated c l r ≡ comparison c l r
-in-comparison c l r low high =
+pub in_comparison : (c : ℕ) (l r : Value) → 5 ≤ c → c ≤ 8 → evaluated c l r ≡ comparison c l r
+in_comparison c l r low high =
     cond-false _ _ _ (above 1 2 c (omega arith)) ∙ cond-false _ _ _ (above 3 4 c (omega arith)) ∙ cond-true _ _ _ (and_from _ _ (le-leb 5 c low) (le-leb c 8 high))
 
-pub in-arithmetic : (c : ℕ) (l r : Value) → 9 ≤ c → c ≤ 13 → evaluated c l r ≡ arithmetic c l r
-in-arithmetic c l r low high =
+pub in_arithmetic : (c : ℕ) (l r : Value) → 9 ≤ c → c ≤ 13 → evaluated c l r ≡ arithmetic c l r
+in_arithmetic c l r low high =
     cond-false _ _ _ (above 1 2 c (omega arith)) ∙ cond-false _ _ _ (above 3 4 c (omega arith)) ∙ cond-false _ _ _ (above 5 8 c (omega arith)) ∙ cond-true _ _ _ (and_from _ _ (le-leb 9 c low) (le-leb c 13 high))
 
-pub in-none : (c : ℕ) (l r : Value) → 13 < c → evaluated c l r ≡ misfit
-in-none c l r high =
+pub in_none : (c : ℕ) (l r : Value) → 13 < c → evaluated c l r ≡ misfit
+in_none c l r high =
     cond-false _ _ _ (above 1 2 c (omega arith)) ∙ cond-false _ _ _ (above 3 4 c (omega arith)) ∙ cond-false _ _ _ (above 5 8 c (omega arith)) ∙ cond-false _ _ _ (above 9 13 c high)

@@ -32,9 +32,9 @@ pub record Division (a b : ℤ) : Type 0 where
 pub record Dividing : Type 0 where
   pub plain : (a b : ℤ) → FitsSigned w64 a → FitsSigned w64 b → (b ≢ pos 0) → (a ≡ smallest → b ≢ negsuc 0) → Division a b
   pub by_zero : (a : ℤ) → evaluated 10 (Int a) (Int (pos 0)) ≡ Err (Fault ZeroDivisor)
-  pub rest-by-zero : (a : ℤ) → evaluated 11 (Int a) (Int (pos 0)) ≡ Err (Fault ZeroDivisor)
+  pub rest_by_zero : (a : ℤ) → evaluated 11 (Int a) (Int (pos 0)) ≡ Err (Fault ZeroDivisor)
   pub wraps : evaluated 10 (Int smallest) (Int (negsuc 0)) ≡ Ok (Int smallest)
-  pub rest-wraps : evaluated 11 (Int smallest) (Int (negsuc 0)) ≡ Ok (Int (pos 0))
+  pub rest_wraps : evaluated 11 (Int smallest) (Int (negsuc 0)) ≡ Ok (Int (pos 0))
 
 -- a number cast to char: 0 to 255, and the number is that much above a multiple of 256
 pub record CharOf (n : ℤ) : Type 0 where

@@ -3,7 +3,7 @@ use Rattle.std.specs.List.{flat_map}
 use Rattle.std.proofs.lemmas.List.{get_or-take, length-take, length-take-le, take_all}
 use Rattle.buffers.specs.Bytes.{pushed}
 use Rattle.bench.specs.Cars.{two_bytes}
-use Rattle.bench.proofs.Codes.{written-more}
+use Rattle.bench.proofs.Codes.{written_more}
 use Rattle.bench.proofs.BenchUnit.list.Goals as goal
 
 pub loop-i-init : goal.loop-i-init
@@ -21,7 +21,7 @@ loop-i-preserved c =
     let few : length cs ≤ 30 = omega (arith, length-take u.held u.codes) in
     let within : i < length cs = omega (arith, length-take u.held u.codes) in
     let at = sym (get_or-take u.held u.codes i 0 c.loop-i-test.true) in
-    written-more cs few _ _ _ i _ within at c.loop-i.invariant c.push-in-loop-i.ensures.after c.push-in-loop-i-2.ensures.after
+    written_more cs few _ _ _ i _ within at c.loop-i.invariant c.push-in-loop-i.ensures.after c.push-in-loop-i-2.ensures.after
 
 pub returns : goal.returns
 returns c =

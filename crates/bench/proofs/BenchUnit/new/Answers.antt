@@ -1,6 +1,6 @@
 use Rattle.std.proofs.Common.{◌≡◌}
-use Rattle.bench.proofs.Codes.{row_room, row_fits, row-codes, made-bench}
-use Rattle.bench.specs.Served.{bench-serves}
+use Rattle.bench.proofs.Codes.{row_room, row_fits, row_codes, made_bench}
+use Rattle.bench.specs.Served.{bench_serves}
 use Rattle.bench.proofs.BenchUnit.new.Goals as goal
 
 pub invariant_of-result : goal.invariant_of-result
@@ -17,4 +17,4 @@ returns c =
     let ds = c.copy_from_slice.new.self in
     let same : ds ≡ cs = c.copy_from_slice.ensures.after in
     let few = c.if-codes-gt30.false in
-    record { result = made-bench cs _ _ (row-codes cs ds same few) c.new-2.ensures few; serves = bench-serves _ }
+    record { result = made_bench cs _ _ (row_codes cs ds same few) c.new-2.ensures few; serves = bench_serves _ }

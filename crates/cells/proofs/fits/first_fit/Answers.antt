@@ -1,6 +1,6 @@
 use Rattle.std.proofs.Common.{◌≡◌, ◌+◌, ◌-◌, true, false, length, sym, ap, ◌∙◌, arith}
 use Rattle.cells.specs.Fits.{row, first_from, first_row, dead_at}
-use Rattle.cells.proofs.Places.{row_more, row-none, dead-past, dead-read, start-ends, from-here, from-none}
+use Rattle.cells.proofs.Places.{row_more, row_none, dead_past, dead_read, start_ends, from_here, from_none}
 use Rattle.cells.proofs.fits.first_fit.Goals as goal
 use Rattle.cells.proofs.fits.first_fit.Goals.{then-i-cells-via-then-i-cells, then-i-cells-via-else-i-cells+then-not-is_dead}
 
@@ -13,11 +13,11 @@ starts-preserved c =
     let cs = c.args.cells.now in
     let s = c.starts.start in
     let i = c.row.i in
-    let ends : dead_at cs (s + i) ≡ false → first_from cs c.args.size (s + 1) (length cs - (s + 1)) ≡ first_row cs c.args.size = λ d. start-ends cs s i c.args.size c.starts-test.true c.row-test.true c.row.invariant.1 d c.starts.invariant.1 in (
+    let ends : dead_at cs (s + i) ≡ false → first_from cs c.args.size (s + 1) (length cs - (s + 1)) ≡ first_row cs c.args.size = λ d. start_ends cs s i c.args.size c.starts-test.true c.row-test.true c.row.invariant.1 d c.starts.invariant.1 in (
       omega arith,
       elim c.then-i-cells.branch [
-        | then-i-cells-via-then-i-cells w ↦ ends (dead-past cs (s + i) (omega (arith, w.if-i-cells.true)))
-        | then-i-cells-via-else-i-cells+then-not-is_dead w ↦ ends (dead-read cs (s + i) _ w.is_dead.result false (omega (arith, w.if-i-cells.false)) w.is_dead.ensures w.if-not-is_dead.true)
+        | then-i-cells-via-then-i-cells w ↦ ends (dead_past cs (s + i) (omega (arith, w.if-i-cells.true)))
+        | then-i-cells-via-else-i-cells+then-not-is_dead w ↦ ends (dead_read cs (s + i) _ w.is_dead.result false (omega (arith, w.if-i-cells.false)) w.is_dead.ensures w.if-not-is_dead.true)
       ],
     )
 
@@ -27,21 +27,21 @@ row-preserved c =
     let s = c.starts.start in
     let i = c.row.i in (
       omega arith,
-      c.row.invariant.1 ∙ row_more cs s i c.args.size c.row-test.true (dead-read cs (s + i) _ c.is_dead.result true (omega arith) c.is_dead.ensures c.if-not-is_dead.false),
+      c.row.invariant.1 ∙ row_more cs s i c.args.size c.row-test.true (dead_read cs (s + i) _ c.is_dead.result true (omega arith) c.is_dead.ensures c.if-not-is_dead.false),
     )
 
 pub returns-in-starts : goal.returns-in-starts
 returns-in-starts c =
     let cs = c.args.cells.now in
-    let full : row cs c.starts.start c.args.size ≡ true = c.row.invariant.1 ∙ row-none cs (c.starts.start + c.row.i) (c.args.size - c.row.i) (omega arith) in
+    let full : row cs c.starts.start c.args.size ≡ true = c.row.invariant.1 ∙ row_none cs (c.starts.start + c.row.i) (c.args.size - c.row.i) (omega arith) in
     record {
-      value = sym (from-here cs c.args.size c.starts.start (omega arith) full) ∙ c.starts.invariant.1;
+      value = sym (from_here cs c.args.size c.starts.start (omega arith) full) ∙ c.starts.invariant.1;
       within = c.starts-test.true;
     }
 
 pub returns : goal.returns
 returns c =
     record {
-      value = sym (from-none c.args.cells.now c.args.size c.starts.start (length c.args.cells.now - c.starts.start) (omega arith)) ∙ c.starts.invariant.1;
+      value = sym (from_none c.args.cells.now c.args.size c.starts.start (length c.args.cells.now - c.starts.start) (omega arith)) ∙ c.starts.invariant.1;
       within = tt;
     }

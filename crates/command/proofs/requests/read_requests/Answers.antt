@@ -2,7 +2,7 @@ use Rattle.std.proofs.Common.{◌≡◌, map, Some, None, vec_items, string_byte
 use Rattle.std.specs.Option.{option_map}
 use Rattle.std.proofs.lemmas.List.{map_push}
 use Rattle.command.specs.Requests.{request_of}
-use Rattle.command.proofs.Readings.{word-bad, word_more, word_end}
+use Rattle.command.proofs.Readings.{word_bad, word_more, word_end}
 use Rattle.command.proofs.requests.read_requests.Goals as goal
 
 pub returns-in-None : goal.returns-in-None
@@ -11,7 +11,7 @@ returns-in-None c =
     let i = c.loop-i.i in
     let text = c.as_str.result.now in
     let none : None ≡ request_of text = sym (ap (option_map vec_items) c.in-None.is) ∙ c.in_ok-request.ensures in
-    sym c.loop-i.invariant ∙ word-bad string_bytes ws i c.index-words-i.result text c.loop-i-test.true c.index-words-i.is c.as_str.ensures.value (map vec_items (vec_items c.loop-i.requests)) none
+    sym c.loop-i.invariant ∙ word_bad string_bytes ws i c.index-words-i.result text c.loop-i-test.true c.index-words-i.is c.as_str.ensures.value (map vec_items (vec_items c.loop-i.requests)) none
 
 pub loop-i-preserved : goal.loop-i-preserved
 loop-i-preserved c =

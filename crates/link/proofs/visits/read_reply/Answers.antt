@@ -1,6 +1,6 @@
 use Rattle.std.proofs.Common.{◌≡◌, ◌+◌, ◌<◌, ◌≤◌, length, take, vec_items, ap, ◌∙◌, arith}
 use Rattle.std.proofs.lemmas.List.{take_all}
-use Rattle.link.proofs.Replies.{read_more, none-past}
+use Rattle.link.proofs.Replies.{read_more, none_past}
 use Rattle.link.proofs.visits.read_reply.Goals as goal
 use Rattle.link.proofs.visits.read_reply.Goals.{in-Some+in_ok-push, in_default}
 
@@ -11,7 +11,7 @@ loop-i-preserved g c =
     let within : i < length p = omega arith in
     let more : vec_items c.match-byte.bytes ≡ take (i + 1) p = elim c.match-byte.branch [
       | in-Some+in_ok-push w ↦ ap vec_items w.bytes-is ∙ w.in_ok-push.ensures.items ∙ read_more p (vec_items c.loop-i.bytes) i w.in-Some.b within w.in-Some.ensures c.loop-i.invariant
-      | in_default w ↦ absurd (none-past p i within w.in_default.ensures)
+      | in_default w ↦ absurd (none_past p i within w.in_default.ensures)
     ] in
     more
 

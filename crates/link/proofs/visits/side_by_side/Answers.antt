@@ -1,7 +1,7 @@
 use Rattle.std.proofs.Common.{◌+◌, map, drop, vec_items, sym, ap, ◌∙◌, subst}
 use Rattle.std.proofs.lemmas.List.{drop_all}
 use Rattle.link.specs.Visits.{answers, Differs}
-use Rattle.link.proofs.Sides.{next-request, after_more, reply-more, first_more, after-end, reply-end, first-end, alike-never-differ, alike-after, alike_is, first-differs}
+use Rattle.link.proofs.Sides.{next_request, after_more, reply_more, first_more, after_end, reply_end, first_end, alike_never_differ, alike_after, alike_is, first_differs}
 use Rattle.link.proofs.visits.side_by_side.Goals as goal
 
 pub loop-i-preserved : goal.loop-i-preserved
@@ -11,12 +11,12 @@ loop-i-preserved g c =
     let rest = map vec_items (drop (i + 1) rs) in
     let sent = c.send_both-same.ensures in
     let q = c.as_slice.result.now in
-    let is = next-request vec_items rs i c.index-requests-i.result q c.loop-i-test.true c.index-requests-i.is c.as_slice.ensures.value in (
+    let is = next_request vec_items rs i c.index-requests-i.result q c.loop-i-test.true c.index-requests-i.is c.as_slice.ensures.value in (
       first_more _ rest q is (i + 1) _ _ _ _ c.loop-i.first _ _ sent.left_next sent.right_next sent.same c.or_at-first.ensures ∙ c.loop-i.invariant.0,
       after_more _ rest q is _ _ sent.left_next ∙ c.loop-i.invariant.1,
-      reply-more _ rest q is _ _ (g.X.Link.present c.loop-i.left) _ sent.left_next sent.left_shown ∙ c.loop-i.invariant.2,
+      reply_more _ rest q is _ _ (g.X.Link.present c.loop-i.left) _ sent.left_next sent.left_shown ∙ c.loop-i.invariant.2,
       after_more _ rest q is _ _ sent.right_next ∙ c.loop-i.invariant.3,
-      reply-more _ rest q is _ _ (g.Y.Link.present c.loop-i.right) _ sent.right_next sent.right_shown ∙ c.loop-i.invariant.4,
+      reply_more _ rest q is _ _ (g.Y.Link.present c.loop-i.right) _ sent.right_next sent.right_shown ∙ c.loop-i.invariant.4,
     )
 
 pub returns : goal.returns
@@ -26,17 +26,17 @@ returns g c =
     let right = g.Y.Link.car c.args.right.now in
     let qs = map vec_items rs in
     let none = ap (map vec_items) (drop_all c.loop-i.i rs c.loop-i-test.false) in
-    let first = sym (first-end _ none (c.loop-i.i + 1) _ _ c.loop-i.first) ∙ c.loop-i.invariant.0 in
-    let left-next = sym (after-end _ none _) ∙ c.loop-i.invariant.1 in
-    let left-shown = sym (reply-end _ none (g.X.Link.present c.loop-i.left) _) ∙ c.loop-i.invariant.2 in
-    let right-next = sym (after-end _ none _) ∙ c.loop-i.invariant.3 in
-    let right-shown = sym (reply-end _ none (g.Y.Link.present c.loop-i.right) _) ∙ c.loop-i.invariant.4 in
+    let first = sym (first_end _ none (c.loop-i.i + 1) _ _ c.loop-i.first) ∙ c.loop-i.invariant.0 in
+    let left-next = sym (after_end _ none _) ∙ c.loop-i.invariant.1 in
+    let left-shown = sym (reply_end _ none (g.X.Link.present c.loop-i.left) _) ∙ c.loop-i.invariant.2 in
+    let right-next = sym (after_end _ none _) ∙ c.loop-i.invariant.3 in
+    let right-shown = sym (reply_end _ none (g.Y.Link.present c.loop-i.right) _) ∙ c.loop-i.invariant.4 in
     record {
       first = first;
-      differs = subst (Differs 1 (answers left qs) (answers right qs)) (sym first) (first-differs 1 left right qs);
+      differs = subst (Differs 1 (answers left qs) (answers right qs)) (sym first) (first_differs 1 left right qs);
       left_next = left-next;
       left_shown = left-shown;
       right_next = right-next;
       right_shown = right-shown;
-      alike = λ a. (first ∙ alike-never-differ 1 left right qs a.cars, alike_is _ _ _ _ _ _ _ _ left-next left-shown right-next right-shown (alike-after left right _ _ qs a));
+      alike = λ a. (first ∙ alike_never_differ 1 left right qs a.cars, alike_is _ _ _ _ _ _ _ _ left-next left-shown right-next right-shown (alike_after left right _ _ qs a));
     }

@@ -1,7 +1,7 @@
 use Rattle.std.proofs.Common.{sym, subst}
 use Rattle.cells.specs.Laws.{KeepsFirst, LeavesHeap}
 use Rattle.cells.specs.Views.{memory}
-use Rattle.cells.proofs.Kept.{given-up-heap, given-up-first}
+use Rattle.cells.proofs.Kept.{given_up_heap, given_up_first}
 use Rattle.cells.proofs.stores.Store.give_up.Goals as goal
 
 pub returns : goal.returns
@@ -12,6 +12,6 @@ returns c =
     let done = c.drop_above.ensures in
     record {
       after = done;
-      heap = subst (LeavesHeap m) (sym done) (given-up-heap mark m s.most);
-      first = subst (KeepsFirst mark m) (sym done) (given-up-first mark m);
+      heap = subst (LeavesHeap m) (sym done) (given_up_heap mark m s.most);
+      first = subst (KeepsFirst mark m) (sym done) (given_up_first mark m);
     }

@@ -2,7 +2,7 @@ use Rattle.std.proofs.Common.{◌≡◌, ◌+◌, ◌<◌, ◌≤◌, length, po
 use Rattle.std.proofs.lemmas.Int.{to_z_pos}
 use Rattle.cells.specs.Layouts.{fresh}
 use Rattle.cells.specs.Views.{memory}
-use Rattle.cells.proofs.Stored.{laid-full, laid-fits, length-fresh}
+use Rattle.cells.proofs.Stored.{laid_full, laid_fits, length-fresh}
 use Rattle.cells.proofs.stores.Store.lay_row.Goals as goal
 
 pub returns-then-size-used : goal.returns-then-size-used
@@ -10,7 +10,7 @@ returns-then-size-used g c =
     let s = c.args.self.now in
     let ks = g.L.Layout.kinds c.args.layout.now in
     let over : 1024 < s.used + length ks = omega arith in
-    let e = laid-full ks (memory s) over in
+    let e = laid_full ks (memory s) over in
     record { result = sym (ap (λ p. p.0) e); after = sym (ap (λ p. p.1) e) }
 
 pub returns : goal.returns
@@ -18,7 +18,7 @@ returns g c =
     let s = c.args.self.now in
     let ks = g.L.Layout.kinds c.args.layout.now in
     let fits : s.used + length ks ≤ 1024 = omega arith in
-    let e = laid-fits ks (memory s) fits in
+    let e = laid_fits ks (memory s) fits in
     let address : to_z w64 (s.used + 1) ≡ pos (s.used + 1) = to_z_pos w64 (s.used + 1) (omega arith) in
     let size : s.used + c.size-size.result ≡ s.used + length (fresh ks) = omega (arith, length-fresh ks) in
     record {

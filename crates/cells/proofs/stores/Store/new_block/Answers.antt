@@ -2,8 +2,8 @@ use Rattle.std.proofs.Common.{◌≡◌, length, drop, vec_items, sym, subst, ar
 use Rattle.cells.specs.Laws.{Finds, LeavesVariables, Restores}
 use Rattle.cells.specs.Memory.{newed}
 use Rattle.cells.specs.Views.{memory}
-use Rattle.cells.proofs.Kept.{newed-keeps}
-use Rattle.cells.proofs.Restored.{newed-finds, newed-restores}
+use Rattle.cells.proofs.Kept.{newed_keeps}
+use Rattle.cells.proofs.Restored.{newed_finds, newed_restores}
 use Rattle.cells.proofs.stores.Store.new_block.Goals as goal
 
 pub returns : goal.returns
@@ -18,7 +18,7 @@ returns g c =
     record {
       result = done.result;
       after = done.after;
-      lowest = subst (Finds (drop 1024 m.cells) (length ks)) (sym done.result) (newed-finds ks m some long starts);
-      undone = subst (λ r. Restores m r (memory c.take_block.new.self)) (sym done.result) (subst (Restores m (newed ks m).0) (sym done.after) (newed-restores ks m some long starts));
-      variables = subst (LeavesVariables m) (sym done.after) (newed-keeps ks m);
+      lowest = subst (Finds (drop 1024 m.cells) (length ks)) (sym done.result) (newed_finds ks m some long starts);
+      undone = subst (λ r. Restores m r (memory c.take_block.new.self)) (sym done.result) (subst (Restores m (newed ks m).0) (sym done.after) (newed_restores ks m some long starts));
+      variables = subst (LeavesVariables m) (sym done.after) (newed_keeps ks m);
     }

@@ -2,7 +2,7 @@ use Rattle.std.proofs.Common.{◌≡◌, ◌+◌, ◌<◌, ◌≤◌, length, dr
 use Rattle.std.proofs.lemmas.List.{length-take}
 use Rattle.std.proofs.lemmas.Int.{to_z_pos}
 use Rattle.cells.specs.Views.{memory}
-use Rattle.cells.proofs.Stored.{new-over, new_by}
+use Rattle.cells.proofs.Stored.{new_over, new_by}
 use Rattle.cells.proofs.stores.Store.take_block.Goals as goal
 
 pub returns-then-size-gt1024 : goal.returns-then-size-gt1024
@@ -11,7 +11,7 @@ returns-then-size-gt1024 g c =
     let ks = g.L.Layout.kinds c.args.layout.now in
     let some : 1 ≤ length ks = omega (arith, c.size-size.ensures.value, c.size-size.ensures.some) in
     let over : 1024 < length ks = omega arith in
-    let e = new-over ks (memory s) over in
+    let e = new_over ks (memory s) over in
     record { result = sym (ap (λ p. p.0) e); after = sym (ap (λ p. p.1) e); some = some }
 
 pub returns-in_default : goal.returns-in_default

@@ -2,7 +2,7 @@ use Rattle.std.proofs.Common.{◌≡◌, ◌<◌, ◌≤◌, [], length, sym, ap
 use Rattle.std.proofs.lemmas.List.{get_or_past}
 use Rattle.shapes.specs.Forms.{rows_of}
 use Rattle.shapes.specs.Tables.{kinds_at, shapes_in}
-use Rattle.shapes.proofs.Rowed.{array_kind, array-some, element-below, first_kind, kind-past, length-rows, parts_below, rest-kind, scalar-kind}
+use Rattle.shapes.proofs.Rowed.{array_kind, array_some, element_below, first_kind, kind_past, length-rows_from, parts_below, rest_kind, scalar_kind}
 use Rattle.shapes.proofs.tables.Shapes.+kind.Goals as goal
 use Rattle.shapes.proofs.tables.Shapes.+kind.Goals.{then-place-len-via-then-place-len, then-place-len-via-else-place-len+then-i-size}
 
@@ -12,17 +12,17 @@ returns-then-place-len t c =
     let p = c.args.place in
     let short : length (kinds_at s p) ≤ c.args.i = elim c.then-place-len.branch [
       | then-place-len-via-then-place-len w ↦
-          let past : length (rows_of (shapes_in s)) ≤ p = omega (arith, length-rows [] (shapes_in s), s.shapes.ok.0, w.if-place-len.true) in
+          let past : length (rows_of (shapes_in s)) ≤ p = omega (arith, length-rows_from [] (shapes_in s), s.shapes.ok.0, w.if-place-len.true) in
           omega (arith, ap length (get_or_past (rows_of (shapes_in s)) p [] past))
       | then-place-len-via-else-place-len+then-i-size w ↦ omega (arith, w.size.ensures.value, w.if-i-size.true)
     ] in
-    sym (kind-past (kinds_at s p) c.args.i short)
+    sym (kind_past (kinds_at s p) c.args.i short)
 
 pub kind-requires : goal.kind-requires
 kind-requires t c =
     let s = c.args.self.now in
     let within : c.args.place < length (shapes_in s) = omega (arith, s.shapes.ok.0) in
-    let lower = element-below (shapes_in s) c.args.place c.index.result.now within c.index.ensures s.below _ _ c.in-Array.is in
+    let lower = element_below (shapes_in s) c.args.place c.index.result.now within c.index.ensures s.below _ _ c.in-Array.is in
     (omega (arith, lower, c.decreases), tt)
 
 pub kind-requires-then-i-size-2 : goal.kind-requires-then-i-size-2
@@ -44,7 +44,7 @@ returns-in-Scalar t c =
     let s = c.args.self.now in
     let within : c.args.place < length (shapes_in s) = omega (arith, s.shapes.ok.0) in
     let inside : c.args.i < length (kinds_at s c.args.place) = omega (arith, c.size.ensures.value) in
-    scalar-kind (shapes_in s) c.args.place c.index.result.now within c.index.ensures s.below c.args.i inside _ c.in-Scalar.is
+    scalar_kind (shapes_in s) c.args.place c.index.result.now within c.index.ensures s.below c.args.i inside _ c.in-Scalar.is
 
 pub returns-then-size-eq0 : goal.returns-then-size-eq0
 returns-then-size-eq0 t c =
@@ -52,7 +52,7 @@ returns-then-size-eq0 t c =
     let within : c.args.place < length (shapes_in s) = omega (arith, s.shapes.ok.0) in
     let inside : c.args.i < length (kinds_at s c.args.place) = omega (arith, c.size.ensures.value) in
     let none : length (kinds_at s c.in-Array.element) ≡ 0 = omega (arith, c.size-size.ensures.value) in
-    absurd (array-some (shapes_in s) c.args.place c.index.result.now within c.index.ensures s.below c.args.i inside _ _ c.in-Array.is none)
+    absurd (array_some (shapes_in s) c.args.place c.index.result.now within c.index.ensures s.below c.args.i inside _ _ c.in-Array.is none)
 
 pub returns-else-size-eq0 : goal.returns-else-size-eq0
 returns-else-size-eq0 t c =
@@ -74,4 +74,4 @@ returns-else-i-size-2 t c =
     let s = c.args.self.now in
     let within : c.args.place < length (shapes_in s) = omega (arith, s.shapes.ok.0) in
     let inside : c.args.i < length (kinds_at s c.args.place) = omega (arith, c.size.ensures.value) in
-    c.kind-else-i-size-2.ensures ∙ rest-kind (shapes_in s) c.args.place c.index.result.now within c.index.ensures s.below c.args.i inside _ _ c.size-size-in-Sequence.result c.in-Sequence.is c.size-size-in-Sequence.ensures.value c.if-i-size-2.false
+    c.kind-else-i-size-2.ensures ∙ rest_kind (shapes_in s) c.args.place c.index.result.now within c.index.ensures s.below c.args.i inside _ _ c.size-size-in-Sequence.result c.in-Sequence.is c.size-size-in-Sequence.ensures.value c.if-i-size-2.false

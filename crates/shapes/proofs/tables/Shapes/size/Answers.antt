@@ -1,7 +1,7 @@
 use Rattle.std.proofs.Common.{◌≡◌, ◌<◌, ◌≤◌, length, get_or, vec_items, sym, ap, ◌∙◌, arith}
 use Rattle.std.proofs.lemmas.List.{get_or_past, get_or_read}
 use Rattle.shapes.specs.Forms.{rows_of}
-use Rattle.shapes.proofs.Rowed.{length_at, sizes-hold}
+use Rattle.shapes.proofs.Rowed.{length_at, sizes_hold}
 use Rattle.shapes.proofs.tables.Shapes.size.Goals as goal
 
 pub returns-then-place-len : goal.returns-then-place-len
@@ -13,7 +13,7 @@ returns-then-place-len c =
     record {
       value = read ∙ ap (λ l. get_or l i 0) t.sized ∙ length_at (rows_of (vec_items t.shapes)) i;
       small = omega (arith, read, t.small i);
-      sizes = sizes-hold;
+      sizes = sizes_hold;
     }
 
 pub returns-else-place-len : goal.returns-else-place-len
@@ -24,5 +24,5 @@ returns-else-place-len c =
     record {
       value = sym (get_or_past (vec_items t.sizes) i 0 past) ∙ ap (λ l. get_or l i 0) t.sized ∙ length_at (rows_of (vec_items t.shapes)) i;
       small = omega arith;
-      sizes = sizes-hold;
+      sizes = sizes_hold;
     }

@@ -4,7 +4,7 @@ use Rattle.buffers.specs.Records.{records_of}
 use Rattle.buffers.proofs.Cuts.{length-records, part_at, part_length}
 use Rattle.tape.specs.Entries.{exchange_of, Fit}
 use Rattle.tape.specs.Views.{exchange}
-use Rattle.tape.proofs.Judged.{entry-fits, exchange-more}
+use Rattle.tape.proofs.Judged.{entry_fits, exchange_more}
 use Rattle.tape.proofs.entries.decode.decode_all.Goals as goal
 
 pub decode-requires : goal.decode-requires
@@ -13,7 +13,7 @@ decode-requires c =
     let i = c.loop-i.i in
     record {
       whole = part_length bs i c.loop-i-test.true;
-      fit = subst Fit (sym (part_at (length bs / 18) bs i c.loop-i-test.true)) (entry-fits bs i c.requires.right c.loop-i-test.true);
+      fit = subst Fit (sym (part_at (length bs / 18) bs i c.loop-i-test.true)) (entry_fits bs i c.requires.right c.loop-i-test.true);
     }
 
 pub loop-i-preserved : goal.loop-i-preserved
@@ -23,7 +23,7 @@ loop-i-preserved c =
     let n = length bs / 18 in
     let within : i < length (records_of bs) = omega (arith, length-records n bs) in
     let pushed = ap (map exchange) c.push_reserved.ensures.items ∙ map_push exchange _ _ in
-    (pushed ∙ exchange-more (records_of bs) i within _ (part_at n bs i c.loop-i-test.true) _ _ c.loop-i.invariant.0 c.decode.ensures, search rules, search rules)
+    (pushed ∙ exchange_more (records_of bs) i within _ (part_at n bs i c.loop-i-test.true) _ _ c.loop-i.invariant.0 c.decode.ensures, search rules, search rules)
 
 pub returns : goal.returns
 returns c =
