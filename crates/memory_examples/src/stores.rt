@@ -1,4 +1,3 @@
-use cells::layouts::Layout;
 use cells::stores::Store;
 use reason::faults::RunFault;
 use shapes::forms::Shape;
