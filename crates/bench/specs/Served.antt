@@ -5,10 +5,8 @@ use Rattle.std.specs.List.{AllByRecursion}
 use Rattle.std.proofs.lemmas.List.{length-take}
 use Rattle.std.proofs.lemmas.Bool.{cond-false, ne_eqb, cases_eq}
 use Rattle.buffers.specs.Bytes.{Below, Bytes}
-use Rattle.buffers.specs.Held.{held}
-use Rattle.buffers.specs.declared.Buffer.{Buffer}
 use Rattle.buffers.proofs.Bounds.{Below-take}
-use Rattle.link.specs.Cars.{silence, reply, Proper, Sound, Short}
+use Rattle.link.specs.Cars.{silence, reply, Proper, Sound}
 use Rattle.bench.specs.Services.{by_code, service_of}
 use Rattle.bench.specs.Cars.{Serves, answer_to, bench_car, codes_after, listed}
 use Rattle.bench.specs.declared.services.Service.{Service}
@@ -107,6 +105,3 @@ bench_sound cs h (p ∷ ps) q = bench_sound (codes_after (service_of p) cs) (aft
 -- of a unit, by the front of its row
 pub row_sound : (n : ℕ) (row : List ℕ) → n ≤ 30 → Below 65536 row → Sound (bench_car (take n row))
 row_sound n row few fits = bench_sound (take n row) (Below-take 65536 (lit< tt) n row fits, omega (arith, length-take n row))
-
-pub buffer_short : (b : Buffer 64) → Short (held b)
-buffer_short b = (omega (arith, length-take b.len b.bytes), Below-take 256 (lit< tt) b.len b.bytes b.fits)

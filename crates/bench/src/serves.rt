@@ -3,7 +3,9 @@ ghost use Rattle.buffers.specs.Held.{held as held_by};
 ghost use Rattle.bench.specs.Cars.{Serves, bench_car, listed};
 ghost use Rattle.bench.specs.Standings.{bench_of};
 ghost use Rattle.bench.specs.Views.{standing, view};
-ghost use Rattle.bench.specs.Served.{row_sound, buffer_short};
+ghost use Rattle.bench.specs.Served.{row_sound};
+ghost use Rattle.link.proofs.Replies.{held_short};
+ghost use Rattle.std.proofs.Common.{lit≤};
 
 use crate::BenchUnit;
 use crate::services::{Service, service_of};
@@ -54,7 +56,7 @@ impl Link for BenchUnit {
 
     ghost sound = { λ x. row_sound x.held x.codes x.few x.fits };
 
-    ghost short = { λ x. buffer_short x.present };
+    ghost short = { λ x. held_short x.present (lit≤ tt) };
 
     fn send(&mut self, request: &[u8]) -> bool {
         match service_of(request) {

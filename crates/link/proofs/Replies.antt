@@ -1,11 +1,19 @@
 -- Present replies, read and compared byte by byte. Assumes nothing.
-use Rattle.std.proofs.Common.{◌≡◌, ℕ, ◌+◌, ◌<◌, ◌≤◌, true, false, ◌&&◌, List, [], ◌∷◌, ◌++◌, length, get_or, take, drop, Some, None, sym, ap, ◌∙◌, ⊎_elim, arith}
+use Rattle.std.proofs.Common.{◌≡◌, ℕ, ◌+◌, ◌<◌, ◌≤◌, true, false, ◌&&◌, List, [], ◌∷◌, ◌++◌, length, get_or, take, drop, Some, None, sym, ap, ◌∙◌, ⊎_elim, arith, lit<}
 use Rattle.std.specs.Str.{bytes_eq}
-use Rattle.std.proofs.lemmas.List.{drop_more, drop_all, take_more}
+use Rattle.std.proofs.lemmas.List.{drop_more, drop_all, length-take, take_more}
 use Rattle.std.proofs.lemmas.Bool.{cond-true, lt-ltb, and_left, cases_Bool}
 use Rattle.std.proofs.lemmas.Slice.Eq.{bytes_eq-Decides}
 use Rattle.buffers.specs.Bytes.{byte_at}
+use Rattle.buffers.specs.Held.{held}
+use Rattle.buffers.specs.declared.Buffer.{Buffer}
+use Rattle.buffers.proofs.Bounds.{Below-take}
+use Rattle.link.specs.Cars.{Short}
 use Rattle.link.specs.Visits.{same_byte}
+
+-- what a buffer of at most 64 bytes holds can be a present reply
+pub held_short : {n : ℕ} (b : Buffer n) → n ≤ 64 → Short (held b)
+held_short b few = (omega (arith, length-take b.len b.bytes), Below-take 256 (lit< tt) b.len b.bytes b.fits)
 
 pub byte_there : (p : List ℕ) (i : ℕ) → i < length p → byte_at p i ≡ Some (get_or p i 0)
 byte_there p i h = cond-true _ _ _ (lt-ltb _ _ h)

@@ -1,14 +1,13 @@
 -- The cars of tapes are sound. Assumes nothing.
 use Rattle.std.specs.Prelude.{ℕ, List, [], ◌∷◌, map}
-use Rattle.std.proofs.Common.{arith, lit<}
+use Rattle.std.proofs.Common.{lit≤}
 use Rattle.std.specs.List.{AllByRecursion}
 use Rattle.std.specs.Str.{bytes_eq}
-use Rattle.std.proofs.lemmas.List.{length-take}
 use Rattle.std.proofs.lemmas.Bool.{cond_both}
 use Rattle.buffers.specs.Held.{held}
 use Rattle.buffers.specs.declared.Buffer.{Buffer}
-use Rattle.buffers.proofs.Bounds.{Below-take}
 use Rattle.link.specs.Cars.{silence, reply, Proper, Sound, Short}
+use Rattle.link.proofs.Replies.{held_short}
 use Rattle.tape.specs.Entries.{Exchange}
 use Rattle.tape.specs.Plays.{answer_of, moved, tape_car}
 use Rattle.tape.specs.Views.{exchange}
@@ -30,7 +29,7 @@ tape_sound es a [] q = answer_proper es a q
 tape_sound es a (p ∷ ps) q = tape_sound (moved es p) (moved_good es a p) ps q
 
 pub buffer_short : (b : Buffer 7) → Short (held b)
-buffer_short b = (omega (arith, length-take b.len b.bytes), Below-take 256 (lit< tt) b.len b.bytes b.fits)
+buffer_short b = held_short b (lit≤ tt)
 
 all_good : (es : List Entry) → AllByRecursion Good (map exchange es)
 all_good [] = tt
