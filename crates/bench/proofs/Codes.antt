@@ -1,5 +1,5 @@
--- Codes in a row of 30, and the reply as it is put together. Assumes nothing.
-use Rattle.std.specs.Prelude.{◌≡◌, ℕ, ◌+◌, ◌-◌, ◌*◌, ◌/◌, ◌%◌, ◌<◌, ◌≤◌, List, [], ◌∷◌, ◌++◌, length, take, replicate, Ok, Result, slice_index}
+-- Codes in a row of 30, and the reply that lists them. Assumes nothing.
+use Rattle.std.specs.Prelude.{◌≡◌, ℕ, zero, suc, ◌+◌, ◌-◌, ◌*◌, ◌/◌, ◌%◌, ◌<◌, ◌≤◌, List, [], ◌∷◌, ◌++◌, length, take, replicate, Ok, Result, slice_index}
 use Rattle.std.proofs.Common.{sym, ap, subst, ◌∙◌, arith, lit<, Fits}
 use borrow.Rule.Slice.PartMut.{post_of}
 use Rattle.std.specs.Int.{w16}
@@ -9,9 +9,9 @@ use Rattle.std.proofs.lemmas.Bool.{cond-true, lt-ltb, le-leb}
 use Rattle.buffers.specs.Bytes.{Below, pushed}
 use Rattle.buffers.proofs.Bounds.{Below-append, Below-drop, Below-replicate}
 use Rattle.refusal.specs.declared.refusals.Refusal.{Refusal}
-use Rattle.bench.specs.Cars.{two_bytes}
+use Rattle.bench.specs.Cars.{listed, two_bytes}
 use Rattle.bench.specs.Standings.{Standing, bench_of}
-use Rattle.bench.specs.Codes.{length-two_bytes}
+use Rattle.bench.specs.Sounds.{length-two_bytes}
 
 -- codes copied into the front of a row
 module _ (cs ds : List ℕ) (same : ds ≡ cs) (few : length cs ≤ 30) where
@@ -50,3 +50,18 @@ module _ (cs : List ℕ) (few : length cs ≤ 30) where
       let more = flat_map_more two_bytes front (take i cs) (slice_index cs i) in
       let step = take_more cs i 0 h in
       second ∙ ap (λ l. l ++ (c % 256) ∷ []) first ∙ both ∙ (λ t. w t ++ two_bytes (at t)) ∙ more ∙ ap (λ l. front ++ flat_map two_bytes l) (sym step)
+
+code_at : (cs : List ℕ) (i : ℕ) → i < length cs → 256 * slice_index (flat_map two_bytes cs) (2 * i) + slice_index (flat_map two_bytes cs) (1 + 2 * i) ≡ slice_index cs i
+code_at [] i h = absurd (omega arith)
+code_at (c ∷ cs) zero h = omega arith
+code_at (c ∷ cs) (suc i) h =
+    let high : 2 * suc i ≡ suc (suc (2 * i)) = omega arith in
+    let low : 1 + 2 * suc i ≡ suc (suc (1 + 2 * i)) = omega arith in
+    let l = flat_map two_bytes (c ∷ cs) in
+    (λ t. 256 * slice_index l (high t) + slice_index l (low t)) ∙ code_at cs i (omega arith)
+
+pub listed_legible : (cs : List ℕ) (i : ℕ) → i < length cs → 256 * slice_index (listed cs) (2 + 2 * i) + slice_index (listed cs) (3 + 2 * i) ≡ slice_index cs i
+listed_legible cs i h =
+    let high : 2 + 2 * i ≡ suc (suc (2 * i)) = omega arith in
+    let low : 3 + 2 * i ≡ suc (suc (1 + 2 * i)) = omega arith in
+    (λ t. 256 * slice_index (listed cs) (high t) + slice_index (listed cs) (low t)) ∙ code_at cs i h

@@ -2,5 +2,4 @@ pub mod Services
 pub mod Cars
 pub mod Standings
 pub mod Views
-pub mod Served
-pub mod Codes
+pub mod Sounds

@@ -3,7 +3,7 @@ ghost use Rattle.buffers.specs.Held.{held as held_by};
 ghost use Rattle.bench.specs.Cars.{Serves, bench_car, listed};
 ghost use Rattle.bench.specs.Standings.{bench_of};
 ghost use Rattle.bench.specs.Views.{standing, view};
-ghost use Rattle.bench.specs.Served.{row_sound};
+ghost use Rattle.bench.specs.Sounds.{row_sound};
 ghost use Rattle.link.proofs.Replies.{held_short};
 ghost use Rattle.std.proofs.Common.{lit≤};
 

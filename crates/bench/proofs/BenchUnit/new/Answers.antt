@@ -1,6 +1,6 @@
 use Rattle.std.proofs.Common.{◌≡◌}
 use Rattle.bench.proofs.Codes.{row_room, row_fits, row_codes, made_bench}
-use Rattle.bench.specs.Served.{bench_serves}
+use Rattle.bench.proofs.Served.{bench_serves}
 use Rattle.bench.proofs.BenchUnit.new.Goals as goal
 
 pub invariant_of-result : goal.invariant_of-result

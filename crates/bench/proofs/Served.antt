@@ -1,17 +1,14 @@
 -- What a bench unit answers, over whole visits. Assumes nothing.
-use Rattle.std.specs.Prelude.{◌≡◌, ℕ, zero, suc, ◌<◌, ◌≤◌, false, List, [], ◌∷◌, ◌++◌, length, take, ◌≢◌, nat_eq, refl}
-use Rattle.std.proofs.Common.{ap, ◌∙◌, ⊎_elim, arith, lit<, lit≤}
+use Rattle.std.proofs.Common.{◌≡◌, ℕ, suc, false, List, [], ◌∷◌, ◌++◌, length, refl, ap, ◌∙◌, ⊎_elim, arith}
+use Rattle.std.specs.Prelude.{◌≢◌, nat_eq}
 use Rattle.std.specs.List.{AllByRecursion}
-use Rattle.std.proofs.lemmas.List.{length-take}
 use Rattle.std.proofs.lemmas.Bool.{cond-false, ne_eqb, cases_eq}
-use Rattle.buffers.specs.Bytes.{Below, Bytes}
-use Rattle.buffers.proofs.Bounds.{Below-take}
-use Rattle.link.specs.Cars.{silence, reply, Proper, Sound}
+use Rattle.link.specs.Cars.{silence, reply}
 use Rattle.bench.specs.Services.{by_code, service_of}
 use Rattle.bench.specs.Cars.{Serves, answer_to, bench_car, codes_after, listed}
 use Rattle.bench.specs.declared.services.Service.{Service}
 use Rattle.bench.specs.declared.services.Service.TheVariants.{ListCodes, ClearCodes, Unknown}
-use Rattle.bench.specs.Codes.{length-two_bytes, listed_below, listed_legible}
+use Rattle.bench.proofs.Codes.{listed_legible}
 
 -- a request that is neither of the two
 other_code : (b : ℕ) → (b ≢ 3) → (b ≢ 4) → by_code b ≡ Unknown
@@ -79,29 +76,3 @@ bench_serves cs = record {
   silent = λ earlier last n3 n4. other_silent cs earlier last (unknown last n3 n4);
   legible = listed_legible cs;
 }
-
--- replies have 1 to 64 bytes
-abbrev Codes : List ℕ → Type 0
-Codes cs = Below 65536 cs × (length cs ≤ 30)
-
-one_byte : (b : ℕ) → b < 256 → Bytes (b ∷ [])
-one_byte b h zero = h
-one_byte b h (suc k) = lit< tt
-
-answer_proper : (s : Service) (cs : List ℕ) → Codes cs → Proper (answer_to s cs)
-answer_proper ListCodes cs h = (omega arith, omega (arith, length-two_bytes cs, h.1), listed_below cs h.0 h.1)
-answer_proper ClearCodes cs h = (lit≤ tt, lit≤ tt, one_byte 0x44 (lit< tt))
-answer_proper Unknown cs h = tt
-
-after_codes : (s : Service) (cs : List ℕ) → Codes cs → Codes (codes_after s cs)
-after_codes ListCodes cs h = h
-after_codes ClearCodes cs h = (λ k. lit< tt, omega arith)
-after_codes Unknown cs h = h
-
-pub bench_sound : (cs : List ℕ) → Codes cs → Sound (bench_car cs)
-bench_sound cs h [] q = answer_proper (service_of q) cs h
-bench_sound cs h (p ∷ ps) q = bench_sound (codes_after (service_of p) cs) (after_codes (service_of p) cs h) ps q
-
--- of a unit, by the front of its row
-pub row_sound : (n : ℕ) (row : List ℕ) → n ≤ 30 → Below 65536 row → Sound (bench_car (take n row))
-row_sound n row few fits = bench_sound (take n row) (Below-take 65536 (lit< tt) n row fits, omega (arith, length-take n row))
