@@ -8,7 +8,7 @@ use Rattle.std.proofs.lemmas.List.{length-append, length-drop, length_push, leng
 use Rattle.std.proofs.lemmas.Bool.{cond-true, lt-ltb, le-leb}
 use Rattle.buffers.specs.Bytes.{Below, pushed}
 use Rattle.buffers.proofs.Bounds.{Below-append, Below-drop, Below-replicate}
-use Rattle.refusal.specs.declared.refusals.Refusal.{Refusal}
+use Rattle.refusal.specs.Refusals.{Refusal}
 use Rattle.bench.specs.Cars.{listed, two_bytes}
 use Rattle.bench.specs.Standings.{Standing, bench_of}
 use Rattle.bench.specs.Sounds.{length-two_bytes}

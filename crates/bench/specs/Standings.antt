@@ -1,9 +1,8 @@
 -- How a bench unit stands. Assumes nothing.
 use Rattle.std.specs.Prelude.{ℕ, cond, List, [], length, Ok, Err, Result, nat_le}
-use Rattle.refusal.specs.Refusals.{refused}
+use Rattle.refusal.specs.Refusals.{Refusal, refused}
 use Rattle.reason.specs.declared.errors.LinkError.TheVariants.{Range}
 use Rattle.reason.specs.declared.reasons.Reason.TheVariants.{Link}
-use Rattle.refusal.specs.declared.refusals.Refusal.{Refusal}
 
 -- the codes held and the present reply
 pub record Standing : Type 0 where

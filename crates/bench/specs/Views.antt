@@ -1,7 +1,7 @@
 -- How a bench unit stands, from what it holds. Assumes nothing.
 use Rattle.std.specs.Prelude.{take, Ok, Err, Result}
 use Rattle.buffers.specs.Held.{held as held_by}
-use Rattle.refusal.specs.declared.refusals.Refusal.{Refusal}
+use Rattle.refusal.specs.Refusals.{Refusal}
 use Rattle.bench.specs.Standings.{Standing}
 use Rattle.bench.specs.declared.BenchUnit.{BenchUnit}
 

@@ -1,6 +1,6 @@
 -- A visit beside the same visit with another fill. Assumes nothing.
 use Rattle.std.specs.Prelude.{◌≡◌, ℕ, true, is_ok, None, Ok, Err, Option, Result}
-use Rattle.refusal.specs.declared.refusals.Refusal.{Refusal}
+use Rattle.refusal.specs.Refusals.{Refusal}
 use Rattle.command.specs.declared.failures.Failure.{Failure}
 use Rattle.command.specs.declared.failures.Failure.TheVariants.{Usage, NoFile, Refused, NotHex, NoMemory, NoOutput}
 

@@ -6,6 +6,7 @@
 #![tactic(auto)]
 
 use cells::stores::Store;
+use reason::causes::Cause;
 use shapes::forms::Shape;
 use shapes::tables::Shapes;
 use value::binary::evaluate;

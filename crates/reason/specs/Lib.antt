@@ -1,2 +1,3 @@
 pub mod Layers
 pub mod Numbers
+pub mod Words

@@ -1,7 +1,8 @@
-ghost use Rattle.std.specs.Prelude.{◌≡◌};
-ghost use Rattle.reason.specs.Numbers.{fault_number};
 ghost use Rattle.reason.specs.Layers.{fault_layer};
+ghost use Rattle.reason.specs.Numbers.{fault_number};
+ghost use Rattle.reason.specs.Words.{fault_words};
 
+use crate::causes::Cause;
 use crate::layers::Layer;
 
 // How a run can end other than by a value. It is no refusal: what was found so far stays.
@@ -31,17 +32,35 @@ pub enum RunFault {
     FuelLimit = 40,
 }
 
-impl RunFault {
-    pub fn number(self) -> u8
-        ensures { result ≡ fault_number self }
-    {
+impl Cause for RunFault {
+    ghost number_of = { fault_number };
+
+    ghost layer_of = { fault_layer };
+
+    ghost words_of = { fault_words };
+
+    fn number(self) -> u8 {
         self as u8
     }
 
     // A run fault is always the run's.
-    pub fn layer(self) -> Layer
-        ensures { result ≡ fault_layer self }
-    {
+    fn layer(self) -> Layer {
         Layer::Run
+    }
+
+    fn words(self) -> &'static str {
+        match self {
+            RunFault::ZeroDivisor => "division by 0",
+            RunFault::IndexRange => "the index lies outside the array",
+            RunFault::NoCell => "the pointer leads to no cell of that kind",
+            RunFault::Unwritten => "the cell was never written",
+            RunFault::HeapFull => "there is no room for new",
+            RunFault::StackFull => "the script is nested too deep, or its variables do not fit",
+            RunFault::NotABlock => "del of what is no live block of new",
+            RunFault::RequestByte => "put of no byte, or of an eighth byte",
+            RunFault::NoSuchByte => "the reply has no such byte",
+            RunFault::FindingsFull => "there are 32 findings already",
+            RunFault::FuelLimit => "the run has used 1,000,000,000 units of fuel",
+        }
     }
 }

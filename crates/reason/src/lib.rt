@@ -1,5 +1,6 @@
 #![tactic(auto)]
 
+pub mod causes;
 pub mod errors;
 pub mod faults;
 pub mod layers;

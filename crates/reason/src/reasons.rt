@@ -1,12 +1,13 @@
-ghost use Rattle.std.specs.Prelude.{◌≡◌};
-ghost use Rattle.reason.specs.Numbers.{reason_number};
 ghost use Rattle.reason.specs.Layers.{reason_layer};
+ghost use Rattle.reason.specs.Numbers.{reason_number};
+ghost use Rattle.reason.specs.Words.{reason_words};
 
+use crate::causes::Cause;
 use crate::errors::{CallError, CardError, LinkError, NameError, TypeError};
 use crate::layers::Layer;
 
 // Why something is refused, by the layer that refuses it.
-#[derive(Clone, Copy)]
+#[derive(Clone, Copy, PartialEq, Eq, Debug)]
 pub enum Reason {
     Card(CardError),
     Names(NameError),
@@ -15,30 +16,40 @@ pub enum Reason {
     Call(CallError),
 }
 
-impl Reason {
-    // The refusal's number, as the mechanic reads it.
-    pub fn number(self) -> u8
-        ensures { result ≡ reason_number self }
-    {
+impl Cause for Reason {
+    ghost number_of = { reason_number };
+
+    ghost layer_of = { reason_layer };
+
+    ghost words_of = { reason_words };
+
+    fn number(self) -> u8 {
         match self {
-            Reason::Card(e) => e as u8,
-            Reason::Names(e) => e as u8,
-            Reason::Types(e) => e as u8,
-            Reason::Link(e) => e as u8,
-            Reason::Call(e) => e as u8,
+            Reason::Card(e) => e.number(),
+            Reason::Names(e) => e.number(),
+            Reason::Types(e) => e.number(),
+            Reason::Link(e) => e.number(),
+            Reason::Call(e) => e.number(),
         }
     }
 
-    // The layer that refuses.
-    pub fn layer(self) -> Layer
-        ensures { result ≡ reason_layer self }
-    {
+    fn layer(self) -> Layer {
         match self {
-            Reason::Card(_) => Layer::Card,
-            Reason::Names(_) => Layer::Names,
-            Reason::Types(_) => Layer::Types,
-            Reason::Link(_) => Layer::Link,
-            Reason::Call(_) => Layer::Call,
+            Reason::Card(e) => e.layer(),
+            Reason::Names(e) => e.layer(),
+            Reason::Types(e) => e.layer(),
+            Reason::Link(e) => e.layer(),
+            Reason::Call(e) => e.layer(),
+        }
+    }
+
+    fn words(self) -> &'static str {
+        match self {
+            Reason::Card(e) => e.words(),
+            Reason::Names(e) => e.words(),
+            Reason::Types(e) => e.words(),
+            Reason::Link(e) => e.words(),
+            Reason::Call(e) => e.words(),
         }
     }
 }

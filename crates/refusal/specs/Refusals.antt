@@ -2,11 +2,20 @@
 use Rattle.std.specs.Prelude.{ℕ}
 use Rattle.reason.specs.declared.faults.RunFault.{RunFault}
 use Rattle.reason.specs.declared.reasons.Reason.{Reason}
-use Rattle.refusal.specs.declared.refusals.FaultAt.{FaultAt}
-use Rattle.refusal.specs.declared.refusals.Refusal.{Refusal}
+use Rattle.refusal.specs.declared.refusals.At.{At}
+
+abbrev pub Refusal : Type 0
+Refusal = At Reason
+
+abbrev pub FaultAt : Type 0
+FaultAt = At RunFault
+
+-- a cause and a record
+abbrev pub blamed : {C : Type 0} → C → ℕ → At C
+blamed why k = record { cause = why; at = k }
 
 abbrev pub refused : Reason → ℕ → Refusal
-refused why k = record { reason = why; at = k }
+refused why k = blamed why k
 
 abbrev pub faulted : RunFault → ℕ → FaultAt
-faulted what k = record { fault = what; at = k }
+faulted what k = blamed what k

@@ -3,4 +3,3 @@
 
 pub mod refusals;
 pub mod shows;
-pub mod words;

@@ -1,69 +1,47 @@
 ghost use Rattle.std.specs.Prelude.{◌≡◌};
-ghost use Rattle.reason.specs.Layers.{reason_layer};
-ghost use Rattle.reason.specs.Numbers.{reason_number};
-ghost use Rattle.refusal.specs.Refusals.{refused, faulted};
+ghost use Rattle.refusal.specs.Refusals.{blamed};
 
+use reason::causes::Cause;
 use reason::faults::RunFault;
 use reason::layers::Layer;
 use reason::reasons::Reason;
 
-// A refusal: why, and the record at fault, counted from 1; 0 where no single record is.
-#[derive(Clone, Copy)]
-pub struct Refusal {
-    reason: Reason,
+// A cause, and the record at fault, counted from 1; 0 where no single record is.
+#[derive(Clone, Copy, PartialEq, Eq, Debug)]
+pub struct At<C> {
+    cause: C,
     at: usize,
 }
+
+// Why something is refused, and where.
+pub type Refusal = At<Reason>;
 
 // A run fault, and the record of the rule that met it.
-#[derive(Clone, Copy)]
-pub struct FaultAt {
-    fault: RunFault,
-    at: usize,
-}
+pub type FaultAt = At<RunFault>;
 
-impl Refusal {
-    pub fn new(reason: Reason, at: usize) -> Refusal
-        ensures { result ≡ refused reason at }
+impl<C: Cause + Copy> At<C> {
+    pub fn new(cause: C, at: usize) -> At<C>
+        ensures { result ≡ blamed cause at }
     {
-        Refusal { reason, at }
+        At { cause, at }
     }
 
-    pub fn reason(&self) -> Reason
-        ensures { result ≡ self.now.reason }
+    pub fn cause(&self) -> C
+        ensures { result ≡ self.now.cause }
     {
-        self.reason
+        self.cause
     }
 
     pub fn number(&self) -> u8
-        ensures { result ≡ reason_number self.now.reason }
+        ensures { result ≡ C.number_of self.now.cause }
     {
-        self.reason.number()
+        self.cause.number()
     }
 
     pub fn layer(&self) -> Layer
-        ensures { result ≡ reason_layer self.now.reason }
+        ensures { result ≡ C.layer_of self.now.cause }
     {
-        self.reason.layer()
-    }
-
-    pub fn record(&self) -> usize
-        ensures { result ≡ self.now.at }
-    {
-        self.at
-    }
-}
-
-impl FaultAt {
-    pub fn new(fault: RunFault, at: usize) -> FaultAt
-        ensures { result ≡ faulted fault at }
-    {
-        FaultAt { fault, at }
-    }
-
-    pub fn fault(&self) -> RunFault
-        ensures { result ≡ self.now.fault }
-    {
-        self.fault
+        self.cause.layer()
     }
 
     pub fn record(&self) -> usize

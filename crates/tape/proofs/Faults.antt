@@ -5,10 +5,9 @@ use Rattle.std.proofs.lemmas.Bool.{and_parts, and_cases, eq-eqb, eqb-true, eqb-f
 use Rattle.buffers.specs.Records.{records_of, record_at}
 use Rattle.buffers.proofs.Cuts.{length-records, get_or-records}
 use Rattle.reason.specs.Numbers.{reason_number}
-use Rattle.refusal.specs.Refusals.{refused}
+use Rattle.refusal.specs.Refusals.{Refusal, refused}
 use Rattle.reason.specs.declared.errors.LinkError.TheVariants.{Size, Mark, Padding, Range}
 use Rattle.reason.specs.declared.reasons.Reason.TheVariants.{Link}
-use Rattle.refusal.specs.declared.refusals.Refusal.{Refusal}
 use Rattle.tape.specs.Entries.{marked, padded, sized, zeros, request_length, reply_count}
 use Rattle.tape.specs.Judgement.{judged, wrong, or_else, verdict, counted}
 use Rattle.tape.specs.Rules.{Faulty, mark, padding, request, reply, Broken, size, entry, Judged}
@@ -89,7 +88,7 @@ none_left {e} t p s (reply f) = sized_kept (reply_count e) (and_parts _ _ s).1 f
 -- what a verdict on entry k owes
 abbrev Right : ℕ → List ℕ → Option Refusal → Type 0
 Right k e None = (m : ℕ) → Faulty e m → ⊥
-Right k e (Some x) = (x.at ≡ k) × Faulty e (reason_number x.reason) × ((m : ℕ) → Faulty e m → reason_number x.reason ≤ m)
+Right k e (Some x) = (x.at ≡ k) × Faulty e (reason_number x.cause) × ((m : ℕ) → Faulty e m → reason_number x.cause ≤ m)
 
 by_tests : (k : ℕ) (e : List ℕ) (a b c : Bool) → marked e ≡ a → padded e ≡ b → (sized (request_length e) && sized (reply_count e)) ≡ c →
     Right k e (cond a (cond b (cond c None (Some (refused (Link Range) k))) (Some (refused (Link Padding) k))) (Some (refused (Link Mark) k)))
@@ -104,8 +103,8 @@ wrong_right k e = by_tests k e (marked e) (padded e) (sized (request_length e) &
 -- what a verdict on entries numbered from k owes
 abbrev AllRight : ℕ → List (List ℕ) → Option Refusal → Type 0
 AllRight k es None = (i m : ℕ) → i < length es → Faulty (get_or es i []) m → ⊥
-AllRight k es (Some x) = (i : ℕ) × (i < length es) × (x.at ≡ k + i) × Faulty (get_or es i []) (reason_number x.reason)
-    × ((j m : ℕ) → j < length es → Faulty (get_or es j []) m → (i < j) ⊎ ((i ≡ j) × (reason_number x.reason ≤ m)))
+AllRight k es (Some x) = (i : ℕ) × (i < length es) × (x.at ≡ k + i) × Faulty (get_or es i []) (reason_number x.cause)
+    × ((j m : ℕ) → j < length es → Faulty (get_or es j []) m → (i < j) ⊎ ((i ≡ j) × (reason_number x.cause ≤ m)))
 
 later_none : (k : ℕ) (e : List ℕ) (es : List (List ℕ)) → ((m : ℕ) → Faulty e m → ⊥) → ((i m : ℕ) → i < length es → Faulty (get_or es i []) m → ⊥) → (i m : ℕ) → i < suc (length es) → Faulty (get_or (e ∷ es) i []) m → ⊥
 later_none k e es here rest zero m h f = here m f
@@ -123,11 +122,11 @@ later_first n i e es none rest (suc j) m h f = ⊎_elim (λ l. inl (omega arith)
 judged_step : (k : ℕ) (e : List ℕ) (es : List (List ℕ)) (o p : Option Refusal) → Right k e o → AllRight (k + 1) es p → AllRight k (e ∷ es) (or_else o p)
 judged_step k e es (Some x) p r a =
     let at : x.at ≡ k + 0 = omega (arith, r.0) in
-    (0, omega arith, at, r.1, λ j m h f. here_first (reason_number x.reason) e es r.2 j m f)
+    (0, omega arith, at, r.1, λ j m h f. here_first (reason_number x.cause) e es r.2 j m f)
 judged_step k e es None None r a = later_none k e es r a
 judged_step k e es None (Some x) r a =
     let at : x.at ≡ k + suc a.0 = omega (arith, a.2) in
-    (suc a.0, omega (arith, a.1), at, a.3, later_first (reason_number x.reason) a.0 e es r a.4)
+    (suc a.0, omega (arith, a.1), at, a.3, later_first (reason_number x.cause) a.0 e es r a.4)
 
 judged_right : (k : ℕ) (es : List (List ℕ)) → AllRight k es (judged k es)
 judged_right k [] = λ i m h f. absurd (omega arith)
@@ -171,8 +170,8 @@ module _ (bs : List ℕ) where
         let low : 1 ≤ x.at = omega (arith, a.2) in
         let high : x.at ≤ length bs / 18 = omega (arith, a.1, a.2, length-records (length bs / 18) bs) in
         let same : i ≡ x.at - 1 = omega (arith, a.2) in
-        let f : Faulty (record_at bs x.at) (reason_number x.reason) = subst (λ e. Faulty e (reason_number x.reason)) (ap (λ k. get_or (records_of bs) k []) same ∙ record_of x.at low high) a.3 in
-        (entry x.at (reason_number x.reason) low high f, λ j m b. before_all (reason_number x.reason) i x.at a.2 a.4 b)
+        let f : Faulty (record_at bs x.at) (reason_number x.cause) = subst (λ e. Faulty e (reason_number x.cause)) (ap (λ k. get_or (records_of bs) k []) same ∙ record_of x.at low high) a.3 in
+        (entry x.at (reason_number x.cause) low high f, λ j m b. before_all (reason_number x.cause) i x.at a.2 a.4 b)
 
   by_size : (whole : Bool) → (eqb (length bs % 18) 0 && leb (length bs / 18) 2000) ≡ whole →
       Judged bs (counted (length bs / 18) (cond whole (judged 1 (records_of bs)) (Some (refused (Link Size) 0))))

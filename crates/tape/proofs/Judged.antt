@@ -4,10 +4,9 @@ use Rattle.std.proofs.lemmas.List.{at_drop_more, map_more}
 use Rattle.std.proofs.lemmas.Bool.{cond-true, and_from, and_parts, eq-eqb, le-leb, leb-true}
 use Rattle.buffers.specs.Records.{records_of}
 use Rattle.buffers.proofs.Cuts.{length-records}
-use Rattle.refusal.specs.Refusals.{refused}
+use Rattle.refusal.specs.Refusals.{Refusal, refused}
 use Rattle.reason.specs.declared.errors.LinkError.TheVariants.{Size, Mark, Padding, Range}
 use Rattle.reason.specs.declared.reasons.Reason.TheVariants.{Link}
-use Rattle.refusal.specs.declared.refusals.Refusal.{Refusal}
 use Rattle.tape.specs.Entries.{marked, padded, sized, request_length, reply_count, Fit, Exchange, exchange_of}
 use Rattle.tape.specs.Judgement.{judged, wrong, or_else, passed, counted, refusal_of}
 

@@ -1,9 +1,8 @@
 -- Which bytes are a tape. Assumes nothing.
 use Rattle.std.specs.Prelude.{ℕ, ◌+◌, ◌/◌, ◌%◌, cond, ◌&&◌, List, [], ◌∷◌, length, Some, None, Ok, Err, Option, Result, ◌==◌, nat_le}
-use Rattle.refusal.specs.Refusals.{refused}
+use Rattle.refusal.specs.Refusals.{Refusal, refused}
 use Rattle.reason.specs.declared.errors.LinkError.TheVariants.{Size, Mark, Padding, Range}
 use Rattle.reason.specs.declared.reasons.Reason.TheVariants.{Link}
-use Rattle.refusal.specs.declared.refusals.Refusal.{Refusal}
 use Rattle.buffers.specs.Records.{records_of}
 use Rattle.tape.specs.Entries.{marked, padded, sized, request_length, reply_count}
 

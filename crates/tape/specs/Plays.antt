@@ -4,7 +4,7 @@ use Rattle.std.specs.Str.{bytes_eq}
 use Rattle.buffers.specs.Records.{records_of}
 use Rattle.link.specs.Cars.{Answer, silence, reply, Car}
 use Rattle.link.specs.Visits.{answers}
-use Rattle.refusal.specs.declared.refusals.Refusal.{Refusal}
+use Rattle.refusal.specs.Refusals.{Refusal}
 use Rattle.tape.specs.Entries.{Exchange, exchange_of}
 use Rattle.tape.specs.Judgement.{refusal_of}
 

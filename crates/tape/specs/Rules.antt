@@ -2,7 +2,7 @@
 use Rattle.std.specs.Prelude.{◌≡◌, ℕ, ◌+◌, ◌/◌, ◌%◌, ◌<◌, ◌≤◌, ◌⊎◌, List, length, Ok, Err, Result, ◌≢◌, slice_index}
 use Rattle.buffers.specs.Records.{record_at}
 use Rattle.reason.specs.Numbers.{reason_number}
-use Rattle.refusal.specs.declared.refusals.Refusal.{Refusal}
+use Rattle.refusal.specs.Refusals.{Refusal}
 use Rattle.tape.specs.Entries.{request_length, reply_count}
 
 -- an entry breaks the rule of a number
@@ -30,4 +30,4 @@ First bs k n = Broken bs k n × ((j m : ℕ) → Broken bs j m → (k < j) ⊎ (
 -- bytes are taken, with the count of their entries, exactly where no rule is broken; else the first that is broken is told
 abbrev pub Judged : List ℕ → Result ℕ Refusal → Type 0
 Judged bs (Ok n) = (n ≡ length bs / 18) × ((j m : ℕ) → Broken bs j m → ⊥)
-Judged bs (Err x) = First bs x.at (reason_number x.reason)
+Judged bs (Err x) = First bs x.at (reason_number x.cause)
