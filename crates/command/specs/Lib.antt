@@ -1,4 +1,5 @@
 pub mod Words
+pub mod Told
 pub mod Failures
 pub mod Requests
 pub mod Fills

@@ -21,11 +21,9 @@ pub fn read_requests(heap: Global, words: &[String]) -> Result<Vec<Vec<u8>>, Fai
     ensures { Reads (map string_bytes words.now) result }
 {
     let mut requests = Vec::new(heap);
-    for i in 0..words.len() {
-        match read_request(heap, words[i].as_str())? {
-            Some(request) => requests.push(request)?,
-            None => return Err(Failure::NotHex(i + 1)),
-        }
+    for (i, word) in words.iter().enumerate() {
+        let request = read_request(heap, word.as_str())?.ok_or(Failure::NotHex(i + 1))?;
+        requests.push(request)?;
     }
     Ok(requests)
 }

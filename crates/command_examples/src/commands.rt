@@ -7,15 +7,36 @@ use reason::errors::LinkError;
 use reason::faults::RunFault;
 use reason::reasons::Reason;
 use refusal::refusals::{FaultAt, Refusal};
+use std::alloc::{AllocError, Global};
 use std::test::Fail;
 
+fn owned(heap: Global, texts: &[&str]) -> Result<Vec<String>, AllocError> {
+    let mut words = Vec::new(heap);
+    for text in texts {
+        words.push(String::from_str(heap, text)?)?;
+    }
+    Ok(words)
+}
+
 #[test]
-fn commands(rt: HostRuntime) {
-    assert_eq!(rt; command_of("--help", 0), Some(Command::Help));
-    assert_eq!(rt; command_of("--help", 1), None);
-    assert_eq!(rt; command_of("visit", 1), Some(Command::Visit));
-    assert_eq!(rt; command_of("visit", 0), None);
-    assert_eq!(rt; command_of("Visit", 2), None);
+fn commands(rt: HostRuntime) -> Result<(), Fail> {
+    let help = owned(rt.alloc(), &["--help"])?;
+    assert_eq!(rt; command_of(help.as_slice()), Some(Command::Help));
+    let more = owned(rt.alloc(), &["--help", "visit"])?;
+    assert_eq!(rt; command_of(more.as_slice()), None);
+    let visit = owned(rt.alloc(), &["visit", "a.tape"])?;
+    assert_eq!(rt;
+        command_of(visit.as_slice()),
+        Some(Command::Visit {
+            tape: "a.tape",
+            requests: &[],
+        })
+    );
+    let alone = owned(rt.alloc(), &["visit"])?;
+    assert_eq!(rt; command_of(alone.as_slice()), None);
+    let capital = owned(rt.alloc(), &["Visit", "a.tape", "03"])?;
+    assert_eq!(rt; command_of(capital.as_slice()), None);
+    Ok(())
 }
 
 #[test]

@@ -23,17 +23,10 @@ fn main(rt: HostRuntime) -> ExitCode {
 }
 
 fn run(rt: &HostRuntime) -> Result<(), Failure> {
-    let mut words = Vec::new(rt.alloc());
-    for word in env::args(rt)?.skip(1) {
-        words.push(word)?;
-    }
-    let [first, rest @ ..] = words.as_slice() else {
-        return Err(Failure::Usage);
-    };
-    match command_of(first.as_str(), rest.len()) {
-        Some(Command::Help) => help(rt),
-        Some(Command::Visit) => visit(rt, rest),
-        None => Err(Failure::Usage),
+    let words: Vec<String> = env::args(rt)?.skip(1).collect(rt.alloc())?;
+    match command_of(words.as_slice()).ok_or(Failure::Usage)? {
+        Command::Help => help(rt),
+        Command::Visit { tape, requests } => visit(rt, tape, requests),
     }
 }
 
@@ -49,14 +42,9 @@ fn help(rt: &HostRuntime) -> Result<(), Failure> {
     Ok(())
 }
 
-fn visit(rt: &HostRuntime, words: &[String]) -> Result<(), Failure> {
-    let [path, rest @ ..] = words else {
-        return Err(Failure::Usage);
-    };
-    let requests = read_requests(rt.alloc(), rest)?;
-    let Ok(bytes) = fs::read(rt, path.as_str()) else {
-        return Err(Failure::NoFile);
-    };
+fn visit(rt: &HostRuntime, path: &str, words: &[String]) -> Result<(), Failure> {
+    let requests = read_requests(rt.alloc(), words)?;
+    let bytes = fs::read(rt, path).map_err(|_| Failure::NoFile)?;
     let mut tape = Tape::new(rt.alloc())?;
     let entries = tape.open(bytes.as_slice())?;
     println!(rt; "tape {path}: {entries} entries")?;
