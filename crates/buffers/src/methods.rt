@@ -20,11 +20,10 @@ impl<const N: usize> Buffer<N> {
     pub fn prefix(source: &[u8]) -> Buffer<N>
         ensures { held result ≡ take N source.now }
     {
-        let mut buffer = Buffer::new();
-        for b in source {
-            buffer.push(*b);
-        }
-        buffer
+        let len = source.len().min(N);
+        let mut bytes = [0; N];
+        bytes[..len].copy_from_slice(&source[..len]);
+        Buffer { bytes, len }
     }
 
     // One byte more; false where N are held, and nothing is changed.
@@ -51,18 +50,13 @@ impl<const N: usize> Buffer<N> {
     pub fn byte(&self, i: usize) -> Option<u8>
         ensures { result ≡ byte_at (held self.now) i }
     {
-        if i < self.len {
-            Some(self.bytes[i])
-        } else {
-            None
-        }
+        self.as_slice().get(i).copied()
     }
 
     pub fn as_slice(&self) -> &[u8]
         ensures { result.now ≡ held self.now }
     {
-        let all = &self.bytes[..];
-        &all[0..self.len]
+        &self.bytes[..self.len]
     }
 
     // Whether these are the bytes held.

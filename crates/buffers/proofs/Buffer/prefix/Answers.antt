@@ -1,17 +1,17 @@
-use Rattle.std.proofs.Common.{[], get_or, take, sym, ap, ◌∙◌, arith}
-use Rattle.std.proofs.lemmas.List.{take_all}
-use Rattle.buffers.specs.Bytes.{pushed}
-use Rattle.buffers.proofs.Bounds.{prefix_more}
+use Rattle.std.proofs.Common.{◌≡◌, ℕ, List, length, drop, replicate, sym, subst, arith, lit<}
+use Rattle.std.proofs.lemmas.List.{length-append, length-drop, length-replicate, length-take}
+use Rattle.buffers.specs.Bytes.{Below}
+use Rattle.buffers.proofs.Bounds.{Below-append, Below-take, Below-drop, Below-replicate}
 use Rattle.buffers.proofs.Buffer.prefix.Goals as goal
 
-pub loop-b-preserved : goal.loop-b-preserved
-loop-b-preserved g c =
-    let xs = c.args.source.now in
-    let i = c.loop-b.b-index in
-    c.push.ensures.after ∙ ap (λ held. pushed g.row.N held (get_or xs i 0)) c.loop-b.invariant ∙ prefix_more g.row.N xs i c.loop-b-test.true
+pub invariant_of-result-clause-room : goal.invariant_of-result-clause-room
+invariant_of-result-clause-room g c =
+    let len = c.min-len.result in
+    let zeros : List ℕ = replicate g.row.N 0 in
+    let all : length zeros ≡ g.row.N = length-replicate g.row.N 0 in
+    omega (arith, length-append c.copy_from_slice.new.self (drop len zeros), length-drop len zeros, length-take len zeros)
 
-pub returns : goal.returns
-returns g c = c.loop-b.invariant ∙ ap (take g.row.N) (take_all c.loop-b.b-index c.args.source.now c.loop-b-test.false)
-
-pub loop-b-init : goal.loop-b-init
-loop-b-init g c = c.new-buffer.ensures ∙ sym (take_all g.row.N [] (omega arith))
+pub invariant_of-result-clause-fits : goal.invariant_of-result-clause-fits
+invariant_of-result-clause-fits g c =
+    let kept = subst (Below 256) (sym c.copy_from_slice.ensures.after) (Below-take 256 (lit< tt) c.min-len.result c.args.source.now (λ k. (c.type_inv.source k).fits)) in
+    Below-append 256 (lit< tt) _ _ kept (Below-drop 256 (lit< tt) c.min-len.result _ (Below-replicate 256 (lit< tt) g.row.N))
