@@ -1,31 +1,25 @@
-use Rattle.std.proofs.Common.{◌≡◌, ◌+◌, ◌*◌, ◌<◌, ◌≤◌, length, vec_items, sym, ◌∙◌, arith}
-use Rattle.hexadecimal.proofs.Pairs.{pair_bad, pair_more, odd_end, even_end}
+use Rattle.std.proofs.Common.{◌≡◌, ◌/◌, length, vec_items, sym, ap, ◌∙◌, arith}
+use Rattle.std.proofs.lemmas.Bool.Decides.{nat_tests}
+use Rattle.hexadecimal.specs.Texts.{bytes_of}
+use Rattle.hexadecimal.proofs.Pairs.{read, pair_bad, pair_more, pairs_end, read_even, odd_none}
 use Rattle.hexadecimal.proofs.decode.Goals as goal
 
+pub returns-then-not-is_empty : goal.returns-then-not-is_empty
+returns-then-not-is_empty c = sym (odd_none (length c.args.text.now / 2) c.args.text.now (grind (arith, nat_tests)))
+
+pub loop-high-init : goal.loop-high-init
+loop-high-init c =
+    let even = read_even (length c.args.text.now / 2) c.args.text.now (grind (arith, nat_tests)) in
+    let all : read c.as_chunks.result.0.now ≡ bytes_of c.args.text.now = ap read c.as_chunks.ensures.front ∙ even in
+    grind (arith)
+
 pub returns-in-None : goal.returns-in-None
-returns-in-None c =
-    let text = c.args.text.now in
-    let i = c.loop-i.i in
-    let within : 2 * i + 1 < length text = omega arith in
-    sym (pair_bad text i (vec_items c.loop-i.bytes) within c.in-None.ensures) ∙ c.loop-i.invariant
+returns-in-None c = sym (pair_bad c.as_chunks.result.0.now c.loop-high.high-index (vec_items c.loop-high.bytes) c.loop-high-test.true c.in-None.ensures) ∙ c.loop-high.invariant
 
-pub loop-i-preserved : goal.loop-i-preserved
-loop-i-preserved c =
-    let text = c.args.text.now in
-    let i = c.loop-i.i in
-    let within : 2 * i + 1 < length text = omega arith in
-    pair_more text i (vec_items c.loop-i.bytes) _ _ within c.in-Some.ensures c.in_ok-push-in-Some.ensures.items ∙ c.loop-i.invariant
-
-pub returns-then-text-ne0 : goal.returns-then-text-ne0
-returns-then-text-ne0 c =
-    let text = c.args.text.now in
-    let i = c.loop-i.i in
-    let odd : length text ≡ 2 * i + 1 = omega arith in
-    sym (odd_end text i (vec_items c.loop-i.bytes) odd) ∙ c.loop-i.invariant
+pub loop-high-preserved : goal.loop-high-preserved
+loop-high-preserved c =
+    let more = pair_more c.as_chunks.result.0.now c.loop-high.high-index (vec_items c.loop-high.bytes) c.in-Some.b c.loop-high-test.true c.in-Some.ensures in
+    cc (c.in_ok-push-in-Some.ensures.items)
 
 pub returns : goal.returns
-returns c =
-    let text = c.args.text.now in
-    let i = c.loop-i.i in
-    let even : length text ≤ 2 * i = omega arith in
-    sym (even_end text i (vec_items c.loop-i.bytes) even) ∙ c.loop-i.invariant
+returns c = sym (pairs_end c.as_chunks.result.0.now c.loop-high.high-index (vec_items c.loop-high.bytes) c.loop-high-test.false) ∙ c.loop-high.invariant
