@@ -1,15 +1,16 @@
 -- Two visits side by side. Assumes nothing.
-use Rattle.std.proofs.Common.{◌≡◌, ℕ, suc, ◌+◌, ◌-◌, ◌<◌, Bool, true, false, List, [], ◌∷◌, map, length, get_or, take, drop, Some, None, Option, sym, refl, ap, ◌∙◌, subst, arith}
-use Rattle.std.proofs.lemmas.List.{drop_more}
+use Rattle.std.proofs.Common.{◌≡◌, ℕ, suc, ◌+◌, ◌-◌, Bool, true, false, not, List, [], ◌∷◌, get_or, take, Some, None, Option, sym, refl, ap, ◌∙◌, subst, arith}
+use Rattle.std.specs.Bool.{then_some}
+use Rattle.std.specs.Option.{option_or}
 use Rattle.std.proofs.lemmas.Slice.Eq.{bytes_eq-Decides}
 use Rattle.link.specs.Cars.{Answer, silence, reply, Car, after, reply_of, Alike}
 use Rattle.link.specs.Visits.{answers, after_all, last_reply, same_answer, or_else, unless, first_difference, Differs}
 
--- the request at i comes before the rest
-pub next_request : {X : Type 0} (f : X → List ℕ) (rs : List X) (i : ℕ) (r : X) (q : List ℕ) → i < length rs → r ≡ get_or rs i r → q ≡ f r → map f (drop i rs) ≡ q ∷ map f (drop (i + 1) rs)
-next_request f rs i r q h at e =
-    let left : drop i rs ≡ r ∷ drop (i + 1) rs = drop_more rs i r h ∙ ap (λ x. x ∷ drop (i + 1) rs) (sym at) in
-    ap (map f) left ∙ ap (λ x. x ∷ map f (drop (i + 1) rs)) (sym e)
+-- the first of two by the library's words
+or_else_is : (first : Option ℕ) (same : Bool) (k : ℕ) → option_or first (then_some (not same) k) ≡ or_else first (unless same k)
+or_else_is (Some x) same k = refl
+or_else_is None true k = refl
+or_else_is None false k = refl
 
 or_else_assoc : (a b c : Option ℕ) → or_else (or_else a b) c ≡ or_else a (or_else b c)
 or_else_assoc None b c = refl
@@ -27,11 +28,11 @@ module _ (qs rest : List (List ℕ)) (q : List ℕ) (is : qs ≡ q ∷ rest) whe
   pub reply_more : (car car' : Car) (p p' : List ℕ) → car' ≡ after q car → p' ≡ reply_of (car [] q) → last_reply p' car' rest ≡ last_reply p car qs
   reply_more car car' p p' next shown = (λ k. last_reply (shown k) (next k) rest) ∙ sym (ap (last_reply p car) is)
 
-  pub first_more : (k : ℕ) (l l' r r' : Car) (first first' : Option ℕ) (same : Bool) → l' ≡ after q l → r' ≡ after q r → same ≡ same_answer (l [] q) (r [] q) → first' ≡ or_else first (unless same k) →
+  pub first_more : (k : ℕ) (l l' r r' : Car) (first first' : Option ℕ) (same : Bool) → l' ≡ after q l → r' ≡ after q r → same ≡ same_answer (l [] q) (r [] q) → first' ≡ option_or first (then_some (not same) k) →
       or_else first' (first_difference (k + 1) l' r' rest) ≡ or_else first (first_difference k l r qs)
   first_more k l l' r r' first first' same nl nr s f =
       let later = first_difference (k + 1) (after q l) (after q r) rest in
-      (λ t. or_else (f t) (first_difference (k + 1) (nl t) (nr t) rest))
+      (λ t. or_else ((f ∙ or_else_is first same k) t) (first_difference (k + 1) (nl t) (nr t) rest))
       ∙ or_else_assoc first (unless same k) later
       ∙ ap (λ b. or_else first (or_else (unless b k) later)) s
       ∙ sym (ap (λ xs. or_else first (first_difference k l r xs)) is)

@@ -1,5 +1,5 @@
 -- A visit: requests sent one after the other. Assumes nothing.
-use Rattle.std.specs.Prelude.{◌≡◌, ℕ, ◌+◌, ◌-◌, ◌<◌, ◌≤◌, Bool, true, false, List, [], ◌∷◌, length, take, Some, None, Option, ◌==◌, ◌≢◌, slice_index_or}
+use Rattle.std.specs.Prelude.{◌≡◌, ℕ, ◌+◌, ◌-◌, ◌<◌, ◌≤◌, Bool, true, false, List, [], ◌∷◌, length, take, Some, None, Option, ◌≢◌, slice_index_or}
 use Rattle.std.specs.Str.{bytes_eq}
 use Rattle.link.specs.Cars.{Answer, silence, reply, Car, after, reply_of}
 
@@ -17,12 +17,6 @@ after_all car (q ∷ qs) = after_all (after q car) qs
 abbrev pub last_reply : List ℕ → Car → List (List ℕ) → List ℕ
 last_reply p car [] = p
 last_reply p car (q ∷ qs) = last_reply (reply_of (car [] q)) (after q car) qs
-
-abbrev pub same_byte : Option ℕ → Option ℕ → Bool
-same_byte None None = true
-same_byte None (Some y) = false
-same_byte (Some x) None = false
-same_byte (Some x) (Some y) = x == y
 
 abbrev pub same_answer : Answer → Answer → Bool
 same_answer silence silence = true

@@ -1,7 +1,7 @@
 ghost use Rattle.std.specs.Prelude.{◌≡◌, [], map, IfOk, None, vec_items};
 ghost use Rattle.std.specs.Str.{bytes_eq};
 ghost use Rattle.link.specs.Cars.{Alike, after, reply_of};
-ghost use Rattle.link.specs.Visits.{answers, after_all, last_reply, same_byte, same_answer, or_else, unless, first_difference, Differs};
+ghost use Rattle.link.specs.Visits.{answers, after_all, last_reply, same_answer, first_difference, Differs};
 
 use crate::Link;
 use std::alloc::{AllocError, Global};
@@ -10,39 +10,14 @@ use std::alloc::{AllocError, Global};
 pub fn read_reply<L: Link>(link: &L, heap: Global) -> Result<Vec<u8>, AllocError>
     ensures { IfOk result (λ v. v.items ≡ L.present link.now) }
 {
-    let mut bytes = Vec::new(heap);
-    for i in 0..link.count() {
-        if let Some(b) = link.byte(i) {
-            bytes.push(b)?;
-        }
-    }
-    Ok(bytes)
-}
-
-// Whether two bytes are the same, or both absent.
-fn same_byte(a: Option<u8>, b: Option<u8>) -> bool
-    ensures { result ≡ same_byte a b }
-{
-    match (a, b) {
-        (Some(x), Some(y)) => x == y,
-        (None, None) => true,
-        _ => false,
-    }
+    (0..link.count()).filter_map(|i| link.byte(i)).collect(heap)
 }
 
 // Whether two links show the same present reply, by their counts and bytes.
 pub fn same_reply<X: Link, Y: Link>(left: &X, right: &Y) -> bool
     ensures { result ≡ bytes_eq (X.Link.present left.now) (Y.Link.present right.now) }
 {
-    if left.count() != right.count() {
-        return false;
-    }
-    for i in 0..left.count() {
-        if !same_byte(left.byte(i), right.byte(i)) {
-            return false;
-        }
-    }
-    true
+    left.count() == right.count() && (0..left.count()).all(|i| left.byte(i) == right.byte(i))
 }
 
 // Sends one request to both, and tells whether they answer and show the same.
@@ -56,16 +31,6 @@ pub fn send_both<X: Link, Y: Link>(left: &mut X, right: &mut Y, request: &[u8]) 
     let x = left.send(request);
     let y = right.send(request);
     x == y && same_reply(left, right)
-}
-
-// The first difference, once request k was sent to both.
-fn or_at(first: Option<usize>, same: bool, k: usize) -> Option<usize>
-    ensures { result ≡ or_else first (unless same k) }
-{
-    match first {
-        Some(j) => Some(j),
-        None => { if same { None } else { Some(k) } }
-    }
 }
 
 // Sends each request to both links, whatever their makes, and compares answers, counts and bytes after each. Tells the first
@@ -84,9 +49,9 @@ pub fn side_by_side<X: Link, Y: Link>(
     ensures alike { Alike (X.Link.car left.old) (X.Link.present left.old) (Y.Link.car right.old) (Y.Link.present right.old) → (result ≡ None) × Alike (X.Link.car left.new) (X.Link.present left.new) (Y.Link.car right.new) (Y.Link.present right.new) }
 {
     let mut first = None;
-    for i in 0..requests.len() {
-        let same = send_both(left, right, requests[i].as_slice());
-        first = or_at(first, same, i + 1);
+    for (i, request) in requests.iter().enumerate() {
+        let same = send_both(left, right, request);
+        first = first.or((!same).then_some(i + 1));
     }
     first
 }

@@ -1,33 +1,17 @@
-use Rattle.std.proofs.Common.{◌≡◌, ◌<◌, ◌≤◌, true, false, length, sym, ◌∙◌, arith}
+use Rattle.std.proofs.Common.{nat_eq, length, rules, tests, ◌∙◌, arith}
+use Rattle.std.specs.Option.{option_eq}
+use Rattle.std.proofs.lemmas.Iterator.{YieldsList-from_range}
+use Rattle.std.proofs.lemmas.Iterator.Search.{all_from_yields_List}
 use Rattle.buffers.specs.Bytes.{byte_at}
-use Rattle.link.specs.Visits.{same_byte}
-use Rattle.link.proofs.Replies.{other_length, bytes_differ, bytes_agree, all_agree}
+use Rattle.link.proofs.Replies.{same_from}
 use Rattle.link.proofs.visits.same_reply.Goals as goal
 
 pub returns-then-count : goal.returns-then-count
-returns-then-count g c = sym (other_length (g.X.Link.present c.args.left.now) (g.Y.Link.present c.args.right.now) (λ e. c.if-count.true (omega arith)))
-
-pub returns-then-not-same_byte : goal.returns-then-not-same_byte
-returns-then-not-same_byte g c =
+returns-then-count g c =
     let p = g.X.Link.present c.args.left.now in
     let q = g.Y.Link.present c.args.right.now in
-    let i = c.loop-i.i in
-    let within : i < length p = omega arith in
-    let test : same_byte (byte_at p i) (byte_at q i) ≡ false = sym (c.if-not-same_byte.ensures ∙ (λ k. same_byte (c.byte.ensures k) (c.byte-in-loop-i.ensures k))) in
-    sym (bytes_differ p q i c.loop-i.invariant.0 within test) ∙ c.loop-i.invariant.1
-
-pub loop-i-preserved : goal.loop-i-preserved
-loop-i-preserved g c =
-    let p = g.X.Link.present c.args.left.now in
-    let q = g.Y.Link.present c.args.right.now in
-    let i = c.loop-i.i in
-    let within : i < length p = omega arith in
-    let test : same_byte (byte_at p i) (byte_at q i) ≡ true = sym (c.if-not-same_byte.ensures ∙ (λ k. same_byte (c.byte.ensures k) (c.byte-in-loop-i.ensures k))) in
-    (c.loop-i.invariant.0, sym (bytes_agree p q i c.loop-i.invariant.0 within test) ∙ c.loop-i.invariant.1)
-
-pub returns : goal.returns
-returns g c =
-    let p = g.X.Link.present c.args.left.now in
-    let q = g.Y.Link.present c.args.right.now in
-    let past : length p ≤ c.loop-i.i = omega arith in
-    sym (all_agree p q c.loop-i.i c.loop-i.invariant.0 past) ∙ c.loop-i.invariant.1
+    let compared =
+    all_from_yields_List (λ k. option_eq nat_eq (byte_at p k) (byte_at q k)) _ _ c.all.result c.all.ensures.ran
+    (YieldsList-from_range 0 c.count-then-count.result (length p) (cc) (omega arith))
+    (λ x b h k. search (rules, tests)) in
+    compared ∙ same_from p q 0 (length p) (omega arith) (omega arith)

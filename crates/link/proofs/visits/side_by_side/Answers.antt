@@ -1,7 +1,9 @@
-use Rattle.std.proofs.Common.{◌+◌, map, drop, vec_items, sym, ap, ◌∙◌, subst}
-use Rattle.std.proofs.lemmas.List.{drop_all}
+use Rattle.std.proofs.Common.{◌≡◌, ◌+◌, not, ◌∷◌, map, drop, vec_items, sym, ap, ◌∙◌, subst}
+use Rattle.std.specs.Bool.{then_some}
+use Rattle.std.specs.Option.{option_or}
+use Rattle.std.proofs.lemmas.List.{at_drop_more, drop_all}
 use Rattle.link.specs.Visits.{answers, Differs}
-use Rattle.link.proofs.Sides.{next_request, after_more, reply_more, first_more, after_end, reply_end, first_end, alike_never_differ, alike_after, alike_is, first_differs}
+use Rattle.link.proofs.Sides.{after_more, reply_more, first_more, after_end, reply_end, first_end, alike_never_differ, alike_after, alike_is, first_differs}
 use Rattle.link.proofs.visits.side_by_side.Goals as goal
 
 pub loop-i-preserved : goal.loop-i-preserved
@@ -10,9 +12,11 @@ loop-i-preserved g c =
     let i = c.loop-i.i in
     let rest = map vec_items (drop (i + 1) rs) in
     let sent = c.send_both-same.ensures in
-    let q = c.as_slice.result.now in
-    let is = next_request vec_items rs i c.index-requests-i.result q c.loop-i-test.true c.index-requests-i.is c.as_slice.ensures.value in (
-      first_more _ rest q is (i + 1) _ _ _ _ c.loop-i.first _ _ sent.left_next sent.right_next sent.same c.or_at-first.ensures ∙ c.loop-i.invariant.0,
+    let q = c.deref.result.now in
+    let next = at_drop_more (map vec_items) rs i c.index-requests-i.result c.loop-i-test.true in
+    let is : map vec_items (drop i rs) ≡ q ∷ rest = cc in
+    let step : c.or-first.result ≡ option_or c.loop-i.first (then_some (not c.send_both-same.result) (i + 1)) = cc in (
+      first_more _ rest q is (i + 1) _ _ _ _ c.loop-i.first _ _ sent.left_next sent.right_next sent.same step ∙ c.loop-i.invariant.0,
       after_more _ rest q is _ _ sent.left_next ∙ c.loop-i.invariant.1,
       reply_more _ rest q is _ _ (g.X.Link.present c.loop-i.left) _ sent.left_next sent.left_shown ∙ c.loop-i.invariant.2,
       after_more _ rest q is _ _ sent.right_next ∙ c.loop-i.invariant.3,
