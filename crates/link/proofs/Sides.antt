@@ -54,8 +54,8 @@ same_refl (reply a) = (bytes_eq-Decides a a).1 refl
 
 same_true : (a b : Answer) → same_answer a b ≡ true → a ≡ b
 same_true silence silence e = refl
-same_true silence (reply b) e = let z : ◌≡◌ {A = ℕ} 0 1 = cc in absurd (omega arith)
-same_true (reply a) silence e = let z : ◌≡◌ {A = ℕ} 0 1 = cc in absurd (omega arith)
+same_true silence (reply b) e = cc
+same_true (reply a) silence e = cc
 same_true (reply a) (reply b) e = ap reply ((bytes_eq-Decides a b).0 e)
 
 -- Links that are alike never differ, and stay alike.
@@ -101,7 +101,7 @@ differs_here k a b xs ys ne =
 differs_by : (k : ℕ) (a b : Answer) (xs ys : List Answer) (o : Option ℕ) (same : Bool) → same_answer a b ≡ same → Differs (k + 1) xs ys o → Differs k (a ∷ xs) (b ∷ ys) (or_else (unless same k) o)
 differs_by k a b xs ys o true e d = differs_later k a b xs ys o (same_true a b e) d
 differs_by k a b xs ys o false e d =
-    differs_here k a b xs ys (λ is. let t : same_answer a b ≡ true = ap (same_answer a) (sym is) ∙ same_refl a in let z : ◌≡◌ {A = ℕ} 0 1 = cc in absurd (omega arith))
+    differs_here k a b xs ys (λ is. let t : same_answer a b ≡ true = ap (same_answer a) (sym is) ∙ same_refl a in cc)
 
 pub first_differs : (k : ℕ) (l r : Car) (qs : List (List ℕ)) → Differs k (answers l qs) (answers r qs) (first_difference k l r qs)
 first_differs k l r [] = refl

@@ -15,13 +15,14 @@ loop-i-preserved g c =
     let q = c.deref.result.now in
     let next = at_drop_more (map vec_items) rs i c.index-requests-i.result c.loop-i-test.true in
     let is : map vec_items (drop i rs) ≡ q ∷ rest = cc in
-    let step : c.or-first.result ≡ option_or c.loop-i.first (then_some (not c.send_both-same.result) (i + 1)) = cc in (
-      first_more _ rest q is (i + 1) _ _ _ _ c.loop-i.first _ _ sent.left_next sent.right_next sent.same step ∙ c.loop-i.invariant.0,
-      after_more _ rest q is _ _ sent.left_next ∙ c.loop-i.invariant.1,
-      reply_more _ rest q is _ _ (g.X.Link.present c.loop-i.left) _ sent.left_next sent.left_shown ∙ c.loop-i.invariant.2,
-      after_more _ rest q is _ _ sent.right_next ∙ c.loop-i.invariant.3,
-      reply_more _ rest q is _ _ (g.Y.Link.present c.loop-i.right) _ sent.right_next sent.right_shown ∙ c.loop-i.invariant.4,
-    )
+    let step : c.or-first.result ≡ option_or c.loop-i.first (then_some (not c.send_both-same.result) (i + 1)) = cc in
+    record {
+      first = first_more _ rest q is (i + 1) _ _ _ _ c.loop-i.first _ _ sent.left_next sent.right_next sent.same step ∙ c.loop-i.invariant.first;
+      left_next = after_more _ rest q is _ _ sent.left_next ∙ c.loop-i.invariant.left_next;
+      left_shown = reply_more _ rest q is _ _ (g.X.Link.present c.loop-i.left) _ sent.left_next sent.left_shown ∙ c.loop-i.invariant.left_shown;
+      right_next = after_more _ rest q is _ _ sent.right_next ∙ c.loop-i.invariant.right_next;
+      right_shown = reply_more _ rest q is _ _ (g.Y.Link.present c.loop-i.right) _ sent.right_next sent.right_shown ∙ c.loop-i.invariant.right_shown;
+    }
 
 pub returns : goal.returns
 returns g c =
@@ -30,11 +31,11 @@ returns g c =
     let right = g.Y.Link.car c.args.right.now in
     let qs = map vec_items rs in
     let none = ap (map vec_items) (drop_all c.loop-i.i rs c.loop-i-test.false) in
-    let first = sym (first_end _ none (c.loop-i.i + 1) _ _ c.loop-i.first) ∙ c.loop-i.invariant.0 in
-    let left-next = sym (after_end _ none _) ∙ c.loop-i.invariant.1 in
-    let left-shown = sym (reply_end _ none (g.X.Link.present c.loop-i.left) _) ∙ c.loop-i.invariant.2 in
-    let right-next = sym (after_end _ none _) ∙ c.loop-i.invariant.3 in
-    let right-shown = sym (reply_end _ none (g.Y.Link.present c.loop-i.right) _) ∙ c.loop-i.invariant.4 in
+    let first = sym (first_end _ none (c.loop-i.i + 1) _ _ c.loop-i.first) ∙ c.loop-i.invariant.first in
+    let left-next = sym (after_end _ none _) ∙ c.loop-i.invariant.left_next in
+    let left-shown = sym (reply_end _ none (g.X.Link.present c.loop-i.left) _) ∙ c.loop-i.invariant.left_shown in
+    let right-next = sym (after_end _ none _) ∙ c.loop-i.invariant.right_next in
+    let right-shown = sym (reply_end _ none (g.Y.Link.present c.loop-i.right) _) ∙ c.loop-i.invariant.right_shown in
     record {
       first = first;
       differs = subst (Differs 1 (answers left qs) (answers right qs)) (sym first) (first_differs 1 left right qs);

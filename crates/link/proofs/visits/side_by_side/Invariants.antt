@@ -9,8 +9,10 @@ invariant-loop-i g l =
     let right = g.Y.Link.car in
     let rest = map vec_items (drop l.i l.requests) in
     let all = map vec_items l.requests in
-    (or_else l.first (first_difference (l.i + 1) (left l.left) (right l.right) rest) ≡ first_difference 1 (left l.initial.left) (right l.initial.right) all)
-    × (after_all (left l.left) rest ≡ after_all (left l.initial.left) all)
-    × (last_reply (g.X.Link.present l.left) (left l.left) rest ≡ last_reply (g.X.Link.present l.initial.left) (left l.initial.left) all)
-    × (after_all (right l.right) rest ≡ after_all (right l.initial.right) all)
-    × (last_reply (g.Y.Link.present l.right) (right l.right) rest ≡ last_reply (g.Y.Link.present l.initial.right) (right l.initial.right) all)
+    record {
+      first : or_else l.first (first_difference (l.i + 1) (left l.left) (right l.right) rest) ≡ first_difference 1 (left l.initial.left) (right l.initial.right) all;
+      left_next : after_all (left l.left) rest ≡ after_all (left l.initial.left) all;
+      left_shown : last_reply (g.X.Link.present l.left) (left l.left) rest ≡ last_reply (g.X.Link.present l.initial.left) (left l.initial.left) all;
+      right_next : after_all (right l.right) rest ≡ after_all (right l.initial.right) all;
+      right_shown : last_reply (g.Y.Link.present l.right) (right l.right) rest ≡ last_reply (g.Y.Link.present l.initial.right) (right l.initial.right) all;
+    }
