@@ -1,3 +1,2 @@
 pub mod Divides
-pub mod Ranges
 pub mod Laws

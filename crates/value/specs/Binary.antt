@@ -3,9 +3,9 @@
 use Rattle.std.specs.Prelude.{ℕ, zero, suc, Bool, cond, not, ◌&&◌, ◌||◌, ℤ, pos, negsuc, ◌+ℤ◌, ◌-ℤ◌, ◌*ℤ◌, Ok, Err, Result, ◌==◌, int_div, int_le, int_lt, int_rem, nat_le}
 use Rattle.std.specs.Int.{int_wrap, w64}
 use Rattle.reason.specs.declared.faults.RunFault.TheVariants.{ZeroDivisor}
-use Rattle.value.specs.Values.{Given, misfit, truth, bit, with_char, with_int, with_bool, with_pointer}
+use Rattle.value.specs.Values.{Given, misfit, truth, bit}
 use Rattle.value.specs.declared.values.Stop.{Stop}
-use Rattle.value.specs.declared.values.Stop.TheVariants.{Fault}
+use Rattle.value.specs.declared.values.Stop.TheVariants.{Fault, Misfit}
 use Rattle.value.specs.declared.values.Value.{Value}
 use Rattle.value.specs.declared.values.Value.TheVariants as value
 
@@ -24,11 +24,15 @@ equated code a b = cond (code == 3) (same_number a b) (not (same_number a b))
 abbrev pub ordered : ℕ → ℤ → ℤ → Bool
 ordered code a b = cond (code == 5) (int_lt a b) (cond (code == 6) (int_lt b a) (cond (code == 7) (int_le a b) (int_le b a)))
 
--- a quotient or a remainder, or the fault of a divisor of 0
-abbrev pub unless_zero : ℤ → ℤ → Result ℤ Stop
+-- what a division gives, or the fault of a divisor of 0
+abbrev pub unless_zero : {A : Type 0} → ℤ → A → Result A Stop
 unless_zero (pos zero) z = Err (Fault ZeroDivisor)
 unless_zero (pos (suc n)) z = Ok z
 unless_zero (negsuc n) z = Ok z
+
+-- a quotient and a remainder
+abbrev pub divided : ℤ → ℤ → Result (ℤ × ℤ) Stop
+divided a b = unless_zero b (int_wrap w64 (int_div a b), int_rem a b)
 
 -- *, /, %, + and -: numbers wrap at 64 bits; a quotient drops its fraction towards zero, and a remainder has the dividend's sign
 abbrev pub computed : ℕ → ℤ → ℤ → Result ℤ Stop
@@ -39,21 +43,27 @@ computed code a b =
     (cond (code == 12) (Ok (int_wrap w64 (a +ℤ b)))
     (Ok (int_wrap w64 (a -ℤ b))))))
 
--- two chars, two ints or two pointers, by their numbers
-abbrev pub compared : (ℤ → ℤ → Bool) → Value → Value → Given
-compared f value.Nothing r = misfit
-compared f (value.Char a) r = with_char r (λ b. truth (f (pos a) (pos b)))
-compared f (value.Int a) r = with_int r (λ b. truth (f a b))
-compared f (value.Bool a) r = misfit
-compared f (value.Pointer a) r = with_pointer r (λ b. truth (f a b))
+-- the numbers of two values of one kind
+abbrev pub numbers_of : Value → Value → Result (ℤ × ℤ) Stop
+numbers_of (value.Char a) (value.Char b) = Ok (pos a, pos b)
+numbers_of (value.Int a) (value.Int b) = Ok (a, b)
+numbers_of (value.Bool a) (value.Bool b) = Ok (bit a, bit b)
+numbers_of (value.Pointer a) (value.Pointer b) = Ok (a, b)
+numbers_of _ _ = Err Misfit
 
--- the same, and two bools
+-- a test of two numbers
+abbrev pub tested : (ℤ → ℤ → Bool) → Result (ℤ × ℤ) Stop → Given
+tested f (Ok p) = truth (f p.0 p.1)
+tested f (Err s) = Err s
+
+-- two values of one kind, by their numbers
 abbrev pub matched : (ℤ → ℤ → Bool) → Value → Value → Given
-matched f value.Nothing r = misfit
-matched f (value.Char a) r = with_char r (λ b. truth (f (pos a) (pos b)))
-matched f (value.Int a) r = with_int r (λ b. truth (f a b))
-matched f (value.Bool a) r = with_bool r (λ b. truth (f (bit a) (bit b)))
-matched f (value.Pointer a) r = with_pointer r (λ b. truth (f a b))
+matched f l r = tested f (numbers_of l r)
+
+-- the same, but for bools
+abbrev pub compared : (ℤ → ℤ → Bool) → Value → Value → Given
+compared f (value.Bool a) r = misfit
+compared f l r = matched f l r
 
 abbrev pub integral : Result ℤ Stop → Given
 integral (Ok z) = Ok (value.Int z)
@@ -61,7 +71,8 @@ integral (Err s) = Err s
 
 -- the four groups of operators, by the kinds that they take
 abbrev pub connective : ℕ → Value → Value → Given
-connective code l r = with_bool l (λ a. with_bool r (λ b. truth (connected code a b)))
+connective code (value.Bool a) (value.Bool b) = truth (connected code a b)
+connective code _ _ = misfit
 
 abbrev pub equality : ℕ → Value → Value → Given
 equality code l r = matched (equated code) l r
@@ -70,7 +81,8 @@ abbrev pub comparison : ℕ → Value → Value → Given
 comparison code l r = compared (ordered code) l r
 
 abbrev pub arithmetic : ℕ → Value → Value → Given
-arithmetic code l r = with_int l (λ a. with_int r (λ b. integral (computed code a b)))
+arithmetic code (value.Int a) (value.Int b) = integral (computed code a b)
+arithmetic code _ _ = misfit
 
 -- what an operator gives, by the range that its code lies in
 abbrev pub evaluated : ℕ → Value → Value → Given

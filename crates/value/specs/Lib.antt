@@ -1,4 +1,5 @@
 pub mod Values
+pub mod Texts
 pub mod Binary
 pub mod Unary
 pub mod Laws

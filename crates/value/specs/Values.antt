@@ -1,5 +1,5 @@
 -- Values: nothing, or a number with its kind. Assumes nothing.
-use Rattle.std.specs.Prelude.{ℕ, Bool, true, false, ℤ, pos, Some, None, Ok, Err, Option, Result}
+use Rattle.std.specs.Prelude.{Bool, true, false, ℤ, pos, Some, None, Ok, Err, Option, Result}
 use Rattle.value.specs.declared.kinds.Kind.{Kind}
 use Rattle.value.specs.declared.kinds.Kind.TheVariants as kind
 use Rattle.value.specs.declared.values.Stop.{Stop}
@@ -36,32 +36,3 @@ misfit = Err Misfit
 
 abbrev pub truth : Bool → Given
 truth b = Ok (value.Bool b)
-
--- a rule that fits one kind alone
-abbrev pub with_char : Value → (ℕ → Given) → Given
-with_char value.Nothing f = misfit
-with_char (value.Char c) f = f c
-with_char (value.Int n) f = misfit
-with_char (value.Bool b) f = misfit
-with_char (value.Pointer n) f = misfit
-
-abbrev pub with_int : Value → (ℤ → Given) → Given
-with_int value.Nothing f = misfit
-with_int (value.Char c) f = misfit
-with_int (value.Int n) f = f n
-with_int (value.Bool b) f = misfit
-with_int (value.Pointer n) f = misfit
-
-abbrev pub with_bool : Value → (Bool → Given) → Given
-with_bool value.Nothing f = misfit
-with_bool (value.Char c) f = misfit
-with_bool (value.Int n) f = misfit
-with_bool (value.Bool b) f = f b
-with_bool (value.Pointer n) f = misfit
-
-abbrev pub with_pointer : Value → (ℤ → Given) → Given
-with_pointer value.Nothing f = misfit
-with_pointer (value.Char c) f = misfit
-with_pointer (value.Int n) f = misfit
-with_pointer (value.Bool b) f = misfit
-with_pointer (value.Pointer n) f = f n

@@ -1,157 +1,112 @@
-ghost use Rattle.std.specs.Prelude.{◌≡◌, ◌+ℤ◌, ◌-ℤ◌, ◌*ℤ◌, int_div, int_rem};
-ghost use Rattle.std.specs.Int.{int_wrap, w64};
+ghost use Rattle.std.specs.Prelude.{◌≡◌, ◌≤◌};
 ghost use Rattle.value.specs.Laws.{Dividing};
-ghost use Rattle.value.specs.Binary.{arithmetic, comparison, computed, connected, connective, equality, equated, evaluated, ordered, unless_zero};
+ghost use Rattle.value.specs.Binary.{arithmetic, comparison, connective, divided, equality, evaluated, numbers_of};
 
-use crate::values::{Stop, Value, bit_of, code_of};
+use crate::values::{Stop, Value};
 use reason::faults::RunFault;
 
-// `|` and `&`, both of whose sides are worked out already.
-fn connect(code: u8, left: bool, right: bool) -> bool
-    ensures { result ≡ connected code left right }
+// The numbers of two values of one kind.
+fn numbers(left: Value, right: Value) -> Result<(i64, i64), Stop>
+    ensures { result ≡ numbers_of left right }
 {
-    if code == 1 {
-        left || right
+    match (left, right) {
+        (Value::Char(a), Value::Char(b)) => Ok((i64::from(a), i64::from(b))),
+        (Value::Bool(a), Value::Bool(b)) => Ok((i64::from(a), i64::from(b))),
+        (Value::Int(a), Value::Int(b)) | (Value::Pointer(a), Value::Pointer(b)) => Ok((a, b)),
+        _ => Err(Stop::Misfit),
+    }
+}
+
+// The quotient, without its fraction, and the remainder, which has the dividend's sign; the smallest number over -1 wraps to itself.
+fn divide(left: i64, right: i64) -> Result<(i64, i64), Stop>
+    ensures { result ≡ divided left right }
+{
+    if right == 0 {
+        Err(RunFault::ZeroDivisor.into())
+    } else if right == -1 && left == i64::MIN {
+        Ok((i64::MIN, 0))
     } else {
-        left && right
+        Ok((left / right, left % right))
+    }
+}
+
+// `|` and `&`, both of whose sides are worked out already.
+fn connect(code: u8, left: Value, right: Value) -> Result<Value, Stop>
+    requires low { 1 ≤ code }
+    requires high { code ≤ 2 }
+    ensures { result ≡ connective code left right }
+{
+    match (code, left, right) {
+        (1, Value::Bool(a), Value::Bool(b)) => Ok(Value::Bool(a || b)),
+        (2, Value::Bool(a), Value::Bool(b)) => Ok(Value::Bool(a && b)),
+        _ => Err(Stop::Misfit),
     }
 }
 
 // `==` and `!=`.
-fn equate(code: u8, left: i64, right: i64) -> bool
-    ensures { result ≡ equated code left right }
+fn equate(code: u8, left: Value, right: Value) -> Result<Value, Stop>
+    requires low { 3 ≤ code }
+    requires high { code ≤ 4 }
+    ensures { result ≡ equality code left right }
 {
-    let same = left <= right && right <= left;
-    if code == 3 { same } else { !same }
-}
-
-// `<`, `>`, `<=` and `>=`.
-fn order(code: u8, left: i64, right: i64) -> bool
-    ensures { result ≡ ordered code left right }
-{
+    let (a, b) = numbers(left, right)?;
     match code {
-        5 => left < right,
-        6 => left > right,
-        7 => left <= right,
-        _ => left >= right,
+        3 => Ok(Value::Bool(a == b)),
+        4 => Ok(Value::Bool(a != b)),
+        _ => Err(Stop::Misfit),
     }
 }
 
-// The quotient, without its fraction; the smallest number over -1 wraps to itself.
-fn quotient(left: i64, right: i64) -> Result<i64, Stop>
-    ensures { result ≡ unless_zero right (int_wrap w64 (int_div left right)) }
+// `<`, `>`, `<=` and `>=`, which bools do not have.
+fn order(code: u8, left: Value, right: Value) -> Result<Value, Stop>
+    requires low { 5 ≤ code }
+    requires high { code ≤ 8 }
+    ensures { result ≡ comparison code left right }
 {
-    if right == 0 {
-        Err(Stop::Fault(RunFault::ZeroDivisor))
-    } else if right == -1 && left == i64::MIN {
-        Ok(i64::MIN)
-    } else {
-        Ok(left / right)
+    if let Value::Bool(_) = left {
+        return Err(Stop::Misfit);
     }
-}
-
-// The remainder, which has the dividend's sign.
-fn remainder(left: i64, right: i64) -> Result<i64, Stop>
-    ensures { result ≡ unless_zero right (int_rem left right) }
-{
-    if right == 0 {
-        Err(Stop::Fault(RunFault::ZeroDivisor))
-    } else if right == -1 && left == i64::MIN {
-        Ok(0)
-    } else {
-        Ok(left % right)
+    let (a, b) = numbers(left, right)?;
+    match code {
+        5 => Ok(Value::Bool(a < b)),
+        6 => Ok(Value::Bool(a > b)),
+        7 => Ok(Value::Bool(a <= b)),
+        8 => Ok(Value::Bool(a >= b)),
+        _ => Err(Stop::Misfit),
     }
-}
-
-fn product(left: i64, right: i64) -> i64
-    ensures { result ≡ int_wrap w64 (left *ℤ right) }
-{
-    left.wrapping_mul(right)
-}
-
-fn sum(left: i64, right: i64) -> i64
-    ensures { result ≡ int_wrap w64 (left +ℤ right) }
-{
-    left.wrapping_add(right)
-}
-
-fn difference(left: i64, right: i64) -> i64
-    ensures { result ≡ int_wrap w64 (left -ℤ right) }
-{
-    left.wrapping_sub(right)
 }
 
 // `*`, `/`, `%`, `+` and `-`, wrapping at 64 bits.
-fn compute(code: u8, left: i64, right: i64) -> Result<i64, Stop>
-    ensures { result ≡ computed code left right }
-{
-    match code {
-        9 => Ok(product(left, right)),
-        10 => quotient(left, right),
-        11 => remainder(left, right),
-        12 => Ok(sum(left, right)),
-        _ => Ok(difference(left, right)),
-    }
-}
-
-fn connect_values(code: u8, left: Value, right: Value) -> Result<Value, Stop>
-    ensures { result ≡ connective code left right }
-{
-    match (left, right) {
-        (Value::Bool(a), Value::Bool(b)) => Ok(Value::Bool(connect(code, a, b))),
-        _ => Err(Stop::Misfit),
-    }
-}
-
-fn equate_values(code: u8, left: Value, right: Value) -> Result<Value, Stop>
-    ensures { result ≡ equality code left right }
-{
-    match (left, right) {
-        (Value::Char(a), Value::Char(b)) => Ok(Value::Bool(equate(code, code_of(a), code_of(b)))),
-        (Value::Int(a), Value::Int(b)) => Ok(Value::Bool(equate(code, a, b))),
-        (Value::Bool(a), Value::Bool(b)) => Ok(Value::Bool(equate(code, bit_of(a), bit_of(b)))),
-        (Value::Pointer(a), Value::Pointer(b)) => Ok(Value::Bool(equate(code, a, b))),
-        _ => Err(Stop::Misfit),
-    }
-}
-
-fn order_values(code: u8, left: Value, right: Value) -> Result<Value, Stop>
-    ensures { result ≡ comparison code left right }
-{
-    match (left, right) {
-        (Value::Char(a), Value::Char(b)) => Ok(Value::Bool(order(code, code_of(a), code_of(b)))),
-        (Value::Int(a), Value::Int(b)) => Ok(Value::Bool(order(code, a, b))),
-        (Value::Pointer(a), Value::Pointer(b)) => Ok(Value::Bool(order(code, a, b))),
-        _ => Err(Stop::Misfit),
-    }
-}
-
-fn compute_values(code: u8, left: Value, right: Value) -> Result<Value, Stop>
+#[tactic(auto, using(std::proofs::lemmas::Int::wraps))]
+fn compute(code: u8, left: Value, right: Value) -> Result<Value, Stop>
+    requires low { 9 ≤ code }
+    requires high { code ≤ 13 }
     ensures { result ≡ arithmetic code left right }
 {
-    match (left, right) {
-        (Value::Int(a), Value::Int(b)) => Ok(Value::Int(compute(code, a, b)?)),
-        _ => Err(Stop::Misfit),
-    }
-}
-
-// By the range that the code lies in.
-fn by_range(code: u8, left: Value, right: Value) -> Result<Value, Stop>
-    ensures { result ≡ evaluated code left right }
-{
+    let (Value::Int(a), Value::Int(b)) = (left, right) else {
+        return Err(Stop::Misfit);
+    };
     match code {
-        1..=2 => connect_values(code, left, right),
-        3..=4 => equate_values(code, left, right),
-        5..=8 => order_values(code, left, right),
-        9..=13 => compute_values(code, left, right),
+        9 => Ok(Value::Int(a.wrapping_mul(b))),
+        10 => Ok(Value::Int(divide(a, b)?.0)),
+        11 => Ok(Value::Int(divide(a, b)?.1)),
+        12 => Ok(Value::Int(a.wrapping_add(b))),
+        13 => Ok(Value::Int(a.wrapping_sub(b))),
         _ => Err(Stop::Misfit),
     }
 }
 
-// What the binary operator of a code gives.
+// What the binary operator of a code gives, by the range that the code lies in.
+#[tactic(auto, using(crate::proofs::Laws::dividing))]
 pub fn evaluate(code: u8, left: Value, right: Value) -> Result<Value, Stop>
     ensures value { result ≡ evaluated code left right }
     ensures division { Dividing }
 {
-    by_range(code, left, right)
+    match code {
+        1..=2 => connect(code, left, right),
+        3..=4 => equate(code, left, right),
+        5..=8 => order(code, left, right),
+        9..=13 => compute(code, left, right),
+        _ => Err(Stop::Misfit),
+    }
 }

@@ -3,5 +3,6 @@
 
 pub mod binary;
 pub mod kinds;
+pub mod shows;
 pub mod unary;
 pub mod values;

@@ -1,25 +1,19 @@
-ghost use Rattle.std.specs.Prelude.{◌≡◌, neg_ℤ};
-ghost use Rattle.std.specs.Int.{int_wrap, w64};
+ghost use Rattle.std.specs.Prelude.{◌≡◌};
 ghost use Rattle.value.specs.Laws.{Casting};
 ghost use Rattle.value.specs.Unary.{applied, cast_of, casted};
 
 use crate::kinds::Kind;
-use crate::values::{Stop, Value, code_of};
-
-fn negation(n: i64) -> i64
-    ensures { result ≡ int_wrap w64 (neg_ℤ n) }
-{
-    n.wrapping_neg()
-}
+use crate::values::{Stop, Value};
 
 // What the unary operator of a code gives: 1 `!`, 2 `+`, 3 `-`.
+#[tactic(auto, using(std::proofs::lemmas::Int::wraps))]
 pub fn apply(code: u8, operand: Value) -> Result<Value, Stop>
     ensures { result ≡ applied code operand }
 {
     match (code, operand) {
         (1, Value::Bool(b)) => Ok(Value::Bool(!b)),
         (2, Value::Int(n)) => Ok(Value::Int(n)),
-        (3, Value::Int(n)) => Ok(Value::Int(negation(n))),
+        (3, Value::Int(n)) => Ok(Value::Int(n.wrapping_neg())),
         _ => Err(Stop::Misfit),
     }
 }
@@ -36,22 +30,16 @@ fn cast_number(n: i64, kind: Kind) -> Result<Value, Stop>
     }
 }
 
-// By the kind of the operand.
-fn cast_value(operand: Value, kind: Kind) -> Result<Value, Stop>
-    ensures { result ≡ casted kind operand }
-{
-    match operand {
-        Value::Char(c) => cast_number(code_of(c), kind),
-        Value::Int(n) => cast_number(n, kind),
-        Value::Pointer(n) => cast_number(n, kind),
-        Value::Nothing | Value::Bool(_) => Err(Stop::Misfit),
-    }
-}
-
 // A char, an int or a pointer as another of these.
+#[tactic(auto, using(crate::proofs::Laws::casting))]
 pub fn cast(operand: Value, kind: Kind) -> Result<Value, Stop>
     ensures value { result ≡ casted kind operand }
     ensures char { Casting }
 {
-    cast_value(operand, kind)
+    match operand {
+        Value::Char(c) => cast_number(i64::from(c), kind),
+        Value::Int(n) => cast_number(n, kind),
+        Value::Pointer(n) => cast_number(n, kind),
+        Value::Nothing | Value::Bool(_) => Err(Stop::Misfit),
+    }
 }

@@ -1,5 +1,6 @@
-ghost use Rattle.std.specs.Prelude.{◌≡◌, pos};
-ghost use Rattle.value.specs.Values.{bit, kind_of, number_of};
+ghost use Rattle.std.specs.Prelude.{◌≡◌};
+ghost use Rattle.value.specs.Values.{kind_of, number_of};
+ghost use Rattle.value.specs.declared.values.Stop.TheVariants.{Fault};
 
 use crate::kinds::Kind;
 use reason::faults::RunFault;
@@ -26,18 +27,12 @@ pub enum Stop {
     Misfit,
 }
 
-// The number of a bool.
-pub fn bit_of(b: bool) -> i64
-    ensures { result ≡ bit b }
-{
-    if b { 1 } else { 0 }
-}
+impl From<RunFault> for Stop {
+    ghost from_gives = { λ x r. r ≡ Fault x };
 
-// The number of a char.
-pub fn code_of(c: u8) -> i64
-    ensures { result ≡ pos c }
-{
-    c as i64
+    fn from(fault: RunFault) -> Stop {
+        Stop::Fault(fault)
+    }
 }
 
 impl Value {
@@ -59,10 +54,9 @@ impl Value {
     {
         match self {
             Value::Nothing => None,
-            Value::Char(c) => Some(code_of(c)),
-            Value::Int(n) => Some(n),
-            Value::Bool(b) => Some(bit_of(b)),
-            Value::Pointer(n) => Some(n),
+            Value::Char(c) => Some(i64::from(c)),
+            Value::Int(n) | Value::Pointer(n) => Some(n),
+            Value::Bool(b) => Some(i64::from(b)),
         }
     }
 }
