@@ -32,8 +32,7 @@ fn divide(left: i64, right: i64) -> Result<(i64, i64), Stop>
 
 // `|` and `&`, both of whose sides are worked out already.
 fn connect(code: u8, left: Value, right: Value) -> Result<Value, Stop>
-    requires low { 1 ≤ code }
-    requires high { code ≤ 2 }
+    requires { (1 ≤ code) × (code ≤ 2) }
     ensures { result ≡ connective code left right }
 {
     match (code, left, right) {
@@ -45,55 +44,55 @@ fn connect(code: u8, left: Value, right: Value) -> Result<Value, Stop>
 
 // `==` and `!=`.
 fn equate(code: u8, left: Value, right: Value) -> Result<Value, Stop>
-    requires low { 3 ≤ code }
-    requires high { code ≤ 4 }
+    requires { (3 ≤ code) × (code ≤ 4) }
     ensures { result ≡ equality code left right }
 {
     let (a, b) = numbers(left, right)?;
-    match code {
-        3 => Ok(Value::Bool(a == b)),
-        4 => Ok(Value::Bool(a != b)),
-        _ => Err(Stop::Misfit),
-    }
+    let holds = match code {
+        3 => a == b,
+        4 => a != b,
+        _ => return Err(Stop::Misfit),
+    };
+    Ok(Value::Bool(holds))
 }
 
 // `<`, `>`, `<=` and `>=`, which bools do not have.
 fn order(code: u8, left: Value, right: Value) -> Result<Value, Stop>
-    requires low { 5 ≤ code }
-    requires high { code ≤ 8 }
+    requires { (5 ≤ code) × (code ≤ 8) }
     ensures { result ≡ comparison code left right }
 {
-    if let Value::Bool(_) = left {
+    if matches!(left, Value::Bool(_)) {
         return Err(Stop::Misfit);
     }
     let (a, b) = numbers(left, right)?;
-    match code {
-        5 => Ok(Value::Bool(a < b)),
-        6 => Ok(Value::Bool(a > b)),
-        7 => Ok(Value::Bool(a <= b)),
-        8 => Ok(Value::Bool(a >= b)),
-        _ => Err(Stop::Misfit),
-    }
+    let holds = match code {
+        5 => a < b,
+        6 => a > b,
+        7 => a <= b,
+        8 => a >= b,
+        _ => return Err(Stop::Misfit),
+    };
+    Ok(Value::Bool(holds))
 }
 
 // `*`, `/`, `%`, `+` and `-`, wrapping at 64 bits.
 #[tactic(auto, using(std::proofs::lemmas::Int::wraps))]
 fn compute(code: u8, left: Value, right: Value) -> Result<Value, Stop>
-    requires low { 9 ≤ code }
-    requires high { code ≤ 13 }
+    requires { (9 ≤ code) × (code ≤ 13) }
     ensures { result ≡ arithmetic code left right }
 {
     let (Value::Int(a), Value::Int(b)) = (left, right) else {
         return Err(Stop::Misfit);
     };
-    match code {
-        9 => Ok(Value::Int(a.wrapping_mul(b))),
-        10 => Ok(Value::Int(divide(a, b)?.0)),
-        11 => Ok(Value::Int(divide(a, b)?.1)),
-        12 => Ok(Value::Int(a.wrapping_add(b))),
-        13 => Ok(Value::Int(a.wrapping_sub(b))),
-        _ => Err(Stop::Misfit),
-    }
+    let number = match code {
+        9 => a.wrapping_mul(b),
+        10 => divide(a, b)?.0,
+        11 => divide(a, b)?.1,
+        12 => a.wrapping_add(b),
+        13 => a.wrapping_sub(b),
+        _ => return Err(Stop::Misfit),
+    };
+    Ok(Value::Int(number))
 }
 
 // What the binary operator of a code gives, by the range that the code lies in.
