@@ -1,13 +1,20 @@
 -- The rows of a table of shapes. Assumes nothing.
-use Rattle.std.proofs.Common.{◌≡◌, ℕ, zero, suc, ◌+◌, ◌-◌, ◌*◌, ◌%◌, ◌<◌, ◌≤◌, Bool, true, false, cond, leb, ◌⊎◌, List, [], ◌∷◌, ◌++◌, map, length, get_or, take, drop, Some, None, sym, refl, ap, ◌∙◌, subst, inl, inr, ⊎_elim, mod-eq_of_lt, mul-zero, zero-mul, arith}
+use Rattle.std.proofs.Common.{◌≡◌, ℕ, zero, suc, ◌+◌, ◌-◌, ◌*◌, ◌%◌, ◌<◌, ◌≤◌, true, ◌⊎◌, List, [], ◌∷◌, ◌++◌, map, length, get_or, vec_items, take, drop, Some, None, Option, Bor, sym, refl, ap, ◌∙◌, inl, inr, ⊎_elim, mod-eq_of_lt, zero-mul, arith}
 use native.Mathlib.Nat.{add-mod_right}
-use Rattle.std.proofs.lemmas.List.{get_or_at, get_or_read, get_or_append_left, get_or_past, length-map, map_push, length-append, length_push, length-take-le, drop_more, take-append-drop}
-use Rattle.std.proofs.lemmas.Bool.{and_parts, and_right, cond-false, leb-true, lt-leb, ltb-true, cases_lt}
+use Rattle.std.proofs.lemmas.List.{get_or_at, get_or_read, get_or_append_left, get_or_past, length-map, get_or-map, map_push, length-append, length_push, length-take-le, drop_more, take-append-drop}
+use Rattle.std.proofs.lemmas.Bool.{and_parts, ltb-true, cases_lt}
+use Rattle.std.specs.Option.{MatchOption}
+use Rattle.std.specs.Slice.{IsItemAt}
 use Rattle.value.specs.declared.kinds.Kind.{Kind}
 use Rattle.value.specs.declared.kinds.Kind.TheVariants.{Char}
 use Rattle.cells.specs.Layouts.{kind_at}
-use Rattle.shapes.specs.Forms.{Sizes, kinds_of, measured, refers_below, repeated, rows_from, rows_of, size_fits}
+use Rattle.shapes.specs.Forms.{Sizes, kinds_of, measured, refers_below, repeated, rows_from, rows_of}
+use Rattle.shapes.specs.Rows.{shapes_of, sizes_of}
 use Rattle.shapes.specs.declared.forms.Shape.{Shape}
+use Rattle.shapes.specs.Tables.{kinds_at, shapes_in}
+use Rattle.shapes.specs.declared.tables.measured.Measured.{Measured}
+use Rattle.shapes.specs.declared.tables.Shapes.{Shapes}
+use Rattle.std.proofs.lemmas.Bool.Decides.{nat_tests}
 use Rattle.shapes.specs.declared.forms.Shape.TheVariants.{Scalar, Array, Sequence}
 
 -- one shape more
@@ -89,36 +96,26 @@ length_at [] i = refl
 length_at (r ∷ rows) zero = refl
 length_at (r ∷ rows) (suc i) = length_at rows i
 
--- a size over 1,024 is none that is allowed
-pub measured_over : (n : ℕ) → 1024 < n → measured n ≡ None
-measured_over n h = cond-false _ _ _ (and_right (leb 1 n) (leb n 1024) (lt-leb n 1024 h))
-
--- a table's sizes are as many as its shapes
-pub sizes_long : (sizes : List ℕ) (ss : List Shape) → sizes ≡ map length (rows_of ss) → length sizes ≡ length ss
-sizes_long sizes ss e = ap length e ∙ length-map (rows_of ss) length ∙ length-rows_from [] ss ∙ omega arith
-
 -- one shape more in a table
-module _ (sizes sizes' : List ℕ) (ss ss' : List Shape) (s : Shape) (n : ℕ) (shapes-more : ss' ≡ ss ++ s ∷ []) (sizes-more : sizes' ≡ sizes ++ n ∷ []) where
-  pub sized_more : sizes ≡ map length (rows_of ss) → n ≡ length (kinds_of (rows_of ss) s) → sizes' ≡ map length (rows_of ss')
+module _ (rows rows' : List Measured) (m : Measured) (more : rows' ≡ rows ++ m ∷ []) where
+  shapes_more : shapes_of rows' ≡ shapes_of rows ++ m.shape ∷ []
+  shapes_more = ap shapes_of more ∙ map_push (λ r. r.shape) rows m
+
+  pub sized_more : sizes_of rows ≡ map length (rows_of (shapes_of rows)) → m.size ≡ length (kinds_of (rows_of (shapes_of rows)) m.shape) → sizes_of rows' ≡ map length (rows_of (shapes_of rows'))
   sized_more e size =
-      sizes-more ∙ (λ t. e t ++ size t ∷ []) ∙ sym (map_push length (rows_of ss) (kinds_of (rows_of ss) s)) ∙ ap (map length) (sym (rows_push [] ss s)) ∙ ap (λ l. map length (rows_of l)) (sym shapes-more)
+      let ss = shapes_of rows in
+      ap sizes_of more ∙ map_push (λ r. r.size) rows m ∙ (λ t. e t ++ size t ∷ []) ∙ sym (map_push length (rows_of ss) (kinds_of (rows_of ss) m.shape)) ∙ ap (map length) (sym (rows_push [] ss m.shape)) ∙ ap (λ l. map length (rows_of l)) (sym shapes_more)
 
-  pub small_more : ((k : ℕ) → get_or sizes k 0 ≤ 1024) → n ≤ 1024 → (k : ℕ) → get_or sizes' k 0 ≤ 1024
-  small_more f h k = subst (λ l. get_or l k 0 ≤ 1024) (sym sizes-more) (pushed_small sizes f k)
-    where
-      pushed_small : (xs : List ℕ) → ((j : ℕ) → get_or xs j 0 ≤ 1024) → (k : ℕ) → get_or (xs ++ n ∷ []) k 0 ≤ 1024
-      pushed_small [] g zero = h
-      pushed_small [] g (suc k) = omega arith
-      pushed_small (x ∷ xs) g zero = g 0
-      pushed_small (x ∷ xs) g (suc k) = pushed_small xs (λ j. g (suc j)) k
-
-  pub below_more : ((k : ℕ) → refers_below (get_or ss k (Scalar Char)) k ≡ true) → refers_below s (length ss) ≡ true → (k : ℕ) → refers_below (get_or ss' k (Scalar Char)) k ≡ true
+  pub below_more : ((k : ℕ) → refers_below (get_or (shapes_of rows) k (Scalar Char)) k ≡ true) → refers_below m.shape (length rows) ≡ true → (k : ℕ) → refers_below (get_or (shapes_of rows') k (Scalar Char)) k ≡ true
   below_more f last k =
-      let at : get_or ss' k (Scalar Char) ≡ get_or (ss ++ s ∷ []) k (Scalar Char) = ap (λ l. get_or l k (Scalar Char)) shapes-more in
+      let ss = shapes_of rows in
+      let s = m.shape in
+      let long : length ss ≡ length rows = length-map rows (λ r. r.shape) in
+      let at : get_or (shapes_of rows') k (Scalar Char) ≡ get_or (ss ++ s ∷ []) k (Scalar Char) = ap (λ l. get_or l k (Scalar Char)) shapes_more in
       ap (λ x. refers_below x k) at ∙ ⊎_elim
       (λ before. ap (λ x. refers_below x k) (get_or_append_left ss (s ∷ []) (Scalar Char) k before) ∙ f k)
       (λ not-before. ⊎_elim
-      (λ here. let e : k ≡ length ss = here in ap (λ x. refers_below x k) (get_or_at ss s [] (Scalar Char) k (sym e)) ∙ ap (refers_below s) e ∙ last)
+      (λ here. let e : k ≡ length ss = here in ap (λ x. refers_below x k) (get_or_at ss s [] (Scalar Char) k (sym e)) ∙ ap (refers_below s) (e ∙ long) ∙ last)
       (λ past. ap (λ x. refers_below x k) (get_or_past (ss ++ s ∷ []) k (Scalar Char) (omega (arith, length_push ss s))))
       (at_or_past k (length ss) not-before))
       (cases_lt k (length ss))
@@ -126,52 +123,72 @@ module _ (sizes sizes' : List ℕ) (ss ss' : List Shape) (s : Shape) (n : ℕ) (
       at_or_past : (a b : ℕ) → b ≤ a → (a ≡ b) ⊎ (b < a)
       at_or_past a b h = ⊎_elim (λ lt. inr lt) (λ le. inl (omega arith)) (cases_lt b a)
 
--- the shape that stands at a place
-module _ (ss : List Shape) (i : ℕ) (s : Shape) (h : i < length ss) (at : s ≡ get_or ss i s) (below : (k : ℕ) → refers_below (get_or ss k (Scalar Char)) k ≡ true) where
-  shape_below : refers_below s i ≡ true
-  shape_below = ap (λ x. refers_below x i) (get_or_read ss i s h at (Scalar Char)) ∙ below i
+-- a row that stands at a place
+pub record RowAt (t : Shapes) (i : ℕ) (row : Measured) : Type 0 where
+  pub within : i < length (vec_items t.rows)
+  pub read : row ≡ get_or (vec_items t.rows) i row
 
-  row_is : (x : Shape) → s ≡ x → get_or (rows_of ss) i [] ≡ kinds_of (rows_of ss) x
-  row_is x e = row_at ss i s h at shape_below ∙ ap (kinds_of (rows_of ss)) e
+pub row_found : (t : Shapes) (i : ℕ) (rows : List Measured) → rows ≡ vec_items t.rows → (row : Bor Measured) → IsItemAt rows i (Some row) → RowAt t i row.now
+row_found t i rows same row item = record {
+  within = omega (arith, item.3.0, ap length same);
+  read = item.1 ∙ ap (λ l. get_or l i row.now) same;
+}
 
-  pub element_below : (n e : ℕ) → s ≡ Array n e → e < i
+module _ (t : Shapes) (i : ℕ) (row : Measured) (at : RowAt t i row) where
+  pub size_at : row.size ≡ length (kinds_at t i)
+  size_at = ap (λ m. m.size) at.read ∙ sym (get_or-map (λ m. m.size) (vec_items t.rows) i row 0 at.within) ∙ ap (λ l. get_or l i 0) t.sized ∙ length_at (rows_of (shapes_in t)) i
+
+  shape_at : row.shape ≡ get_or (shapes_in t) i row.shape
+  shape_at = ap (λ m. m.shape) at.read ∙ sym (get_or-map (λ m. m.shape) (vec_items t.rows) i row row.shape at.within)
+
+  shape_within : i < length (shapes_in t)
+  shape_within = omega (arith, at.within, length-map (vec_items t.rows) (λ m. m.shape))
+
+  shape_below : refers_below row.shape i ≡ true
+  shape_below = ap (λ x. refers_below x i) (get_or_read (shapes_in t) i row.shape shape_within shape_at (Scalar Char)) ∙ t.below i
+
+  row_is : (x : Shape) → row.shape ≡ x → kinds_at t i ≡ kinds_of (rows_of (shapes_in t)) x
+  row_is x e = row_at (shapes_in t) i row.shape shape_within shape_at shape_below ∙ ap (kinds_of (rows_of (shapes_in t))) e
+
+  pub element_below : (n e : ℕ) → row.shape ≡ Array n e → e < i
   element_below n e is = ltb-true e i (sym (ap (λ x. refers_below x i) is) ∙ shape_below)
 
-  pub parts_below : (a b : ℕ) → s ≡ Sequence a b → (a < i) × (b < i)
+  pub parts_below : (a b : ℕ) → row.shape ≡ Sequence a b → (a < i) × (b < i)
   parts_below a b is = let p = and_parts _ _ (sym (ap (λ x. refers_below x i) is) ∙ shape_below) in (ltb-true a i p.0, ltb-true b i p.1)
 
+  pub kind_beyond : (j : ℕ) → row.size ≤ j → None ≡ kind_at (kinds_at t i) j
+  kind_beyond j h = sym (kind_past (kinds_at t i) j (omega (arith, size_at)))
+
   -- the kind of cell j, by the shape
-  module _ (j : ℕ) (within : j < length (get_or (rows_of ss) i [])) where
-    pub scalar_kind : (k : Kind) → s ≡ Scalar k → Some k ≡ kind_at (get_or (rows_of ss) i []) j
+  module _ (j : ℕ) (inside : j < row.size) where
+    pub scalar_kind : (k : Kind) → row.shape ≡ Scalar k → Some k ≡ kind_at (kinds_at t i) j
     scalar_kind k is =
-        let row = row_is (Scalar k) is in
-        let first : j ≡ 0 = omega (arith, within, ap length row) in
-        sym (ap (λ r. kind_at r j) row ∙ ap (kind_at (k ∷ [])) first)
+        let r = row_is (Scalar k) is in
+        let first : j ≡ 0 = omega (arith, inside, size_at, ap length r) in
+        sym (ap (λ l. kind_at l j) r ∙ ap (kind_at (k ∷ [])) first)
 
-    pub array_some : (n e : ℕ) → s ≡ Array n e → length (get_or (rows_of ss) e []) ≡ 0 → ⊥
-    array_some n e is none =
-        let long = ap length (row_is (Array n e) is) ∙ length-repeated n (get_or (rows_of ss) e []) ∙ ap (λ m. n * m) none ∙ mul-zero n in
-        omega (arith, within, long)
-
-    pub array_kind : (n e m : ℕ) → s ≡ Array n e → m ≡ length (get_or (rows_of ss) e []) → kind_at (get_or (rows_of ss) e []) (j % m) ≡ kind_at (get_or (rows_of ss) i []) j
+    pub array_kind : (n e m : ℕ) → row.shape ≡ Array n e → m ≡ length (kinds_at t e) → kind_at (kinds_at t e) (j % m) ≡ kind_at (kinds_at t i) j
     array_kind n e m is size =
-        let row = row_is (Array n e) is in
-        let inside : j < length (repeated n (get_or (rows_of ss) e [])) = omega (arith, within, ap length row) in
-        ap (λ x. kind_at (get_or (rows_of ss) e []) (j % x)) size ∙ sym (kind_repeated n (get_or (rows_of ss) e []) j inside) ∙ sym (ap (λ r. kind_at r j) row)
+        let r = row_is (Array n e) is in
+        let within_all : j < length (repeated n (kinds_at t e)) = omega (arith, inside, size_at, ap length r) in
+        ap (λ x. kind_at (kinds_at t e) (j % x)) size ∙ sym (kind_repeated n (kinds_at t e) j within_all) ∙ sym (ap (λ l. kind_at l j) r)
 
-    pub first_kind : (a b : ℕ) → s ≡ Sequence a b → j < length (get_or (rows_of ss) a []) → kind_at (get_or (rows_of ss) a []) j ≡ kind_at (get_or (rows_of ss) i []) j
-    first_kind a b is left = sym (kind_left (get_or (rows_of ss) a []) (get_or (rows_of ss) b []) j left) ∙ sym (ap (λ r. kind_at r j) (row_is (Sequence a b) is))
+    pub first_kind : (a b m : ℕ) → row.shape ≡ Sequence a b → m ≡ length (kinds_at t a) → j < m → kind_at (kinds_at t a) j ≡ kind_at (kinds_at t i) j
+    first_kind a b m is size left = sym (kind_left (kinds_at t a) (kinds_at t b) j (omega arith)) ∙ sym (ap (λ l. kind_at l j) (row_is (Sequence a b) is))
 
-    pub rest_kind : (a b m : ℕ) → s ≡ Sequence a b → m ≡ length (get_or (rows_of ss) a []) → m ≤ j → kind_at (get_or (rows_of ss) b []) (j - m) ≡ kind_at (get_or (rows_of ss) i []) j
+    pub rest_kind : (a b m : ℕ) → row.shape ≡ Sequence a b → m ≡ length (kinds_at t a) → m ≤ j → kind_at (kinds_at t b) (j - m) ≡ kind_at (kinds_at t i) j
     rest_kind a b m is size right =
-        ap (λ x. kind_at (get_or (rows_of ss) b []) (j - x)) size ∙ sym (kind_right (get_or (rows_of ss) a []) (get_or (rows_of ss) b []) j (omega arith)) ∙ sym (ap (λ r. kind_at r j) (row_is (Sequence a b) is))
+        ap (λ x. kind_at (kinds_at t b) (j - x)) size ∙ sym (kind_right (kinds_at t a) (kinds_at t b) j (omega arith)) ∙ sym (ap (λ l. kind_at l j) (row_is (Sequence a b) is))
 
-pub measured_some : (m n : ℕ) → Some m ≡ measured n → (m ≡ n) × (m ≤ 1024)
-measured_some m n e = by_test m n (size_fits n) refl e
-  where
-    by_test : (m n : ℕ) (b : Bool) → size_fits n ≡ b → Some m ≡ cond b (Some n) None → (m ≡ n) × (m ≤ 1024)
-    by_test m n true t e = let same : m ≡ n = cc in (same, omega (arith, same, leb-true n 1024 (and_parts (leb 1 n) (leb n 1024) t).1))
-    by_test m n false t e = let z : ◌≡◌ {A = ℕ} 0 1 = cc in absurd (omega arith)
+-- the size that is found at a place
+pub size_found : {P : Bor Measured → Type 0} (t : Shapes) (i r : ℕ) (rows : List Measured) → rows ≡ vec_items t.rows → (found : Option (Bor Measured)) → IsItemAt rows i found → MatchOption found (r ≡ 0) P → ((x : Bor Measured) → P x → r ≡ x.now.size) → r ≡ length (kinds_at t i)
+size_found t i r rows same None item e read =
+    let past : length (rows_of (shapes_in t)) ≤ i = omega (arith, item.3, ap length same, length-rows_from [] (shapes_in t), length-map (vec_items t.rows) (λ m. m.shape)) in
+    e ∙ sym (ap length (get_or_past (rows_of (shapes_in t)) i [] past))
+size_found t i r rows same (Some x) item e read = read x e ∙ size_at t i x.now (row_found t i rows same x item)
+
+pub measured_some : (m n : ℕ) → Some m ≡ measured n → m ≡ n
+measured_some m n e = grind (arith, nat_tests)
 
 pub sizes_hold : Sizes
 sizes_hold = record {

@@ -11,21 +11,18 @@ impl Shapes {
     pub fn kind(&self, place: usize, i: usize) -> Option<Kind>
         ensures { result ≡ kind_at (kinds_at self.now place) i }
     {
-        if place >= self.shapes.len() || i >= self.size(place) {
+        let row = self.rows.get(place)?;
+        if i >= row.size {
             return None;
         }
-        match self.shapes[place] {
+        match row.shape {
             Shape::Scalar(kind) => Some(kind),
             Shape::Array { element, .. } => {
-                let size = self.size(element);
-                if size == 0 {
-                    None
-                } else {
-                    self.kind(element, i % size)
-                }
+                let size = self.rows[element].size;
+                self.kind(element, i % size)
             }
             Shape::Sequence { first, rest } => {
-                let size = self.size(first);
+                let size = self.rows[first].size;
                 if i < size {
                     self.kind(first, i)
                 } else {

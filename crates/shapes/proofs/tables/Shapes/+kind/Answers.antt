@@ -1,77 +1,59 @@
-use Rattle.std.proofs.Common.{◌≡◌, ◌<◌, ◌≤◌, [], length, sym, ap, ◌∙◌, arith}
-use Rattle.std.proofs.lemmas.List.{get_or_past}
-use Rattle.shapes.specs.Forms.{rows_of}
-use Rattle.shapes.specs.Tables.{kinds_at, shapes_in}
-use Rattle.shapes.proofs.Rowed.{array_kind, array_some, element_below, first_kind, kind_past, length-rows_from, parts_below, rest_kind, scalar_kind}
+use Rattle.std.proofs.Common.{◌∙◌, arith}
+use Rattle.shapes.proofs.Rowed.{RowAt, array_kind, element_below, first_kind, kind_beyond, parts_below, rest_kind, row_found, scalar_kind, size_at}
 use Rattle.shapes.proofs.tables.Shapes.+kind.Goals as goal
-use Rattle.shapes.proofs.tables.Shapes.+kind.Goals.{then-place-len-via-then-place-len, then-place-len-via-else-place-len+then-i-size}
 
-pub returns-then-place-len : goal.returns-then-place-len
-returns-then-place-len t c =
-    let s = c.args.self.now in
-    let p = c.args.place in
-    let short : length (kinds_at s p) ≤ c.args.i = elim c.then-place-len.branch [
-      | then-place-len-via-then-place-len w ↦
-          let past : length (rows_of (shapes_in s)) ≤ p = omega (arith, length-rows_from [] (shapes_in s), s.shapes.ok.0, w.if-place-len.true) in
-          omega (arith, ap length (get_or_past (rows_of (shapes_in s)) p [] past))
-      | then-place-len-via-else-place-len+then-i-size w ↦ omega (arith, w.size.ensures.value, w.if-i-size.true)
-    ] in
-    sym (kind_past (kinds_at s p) c.args.i short)
+pub returns-then-i-row : goal.returns-then-i-row
+returns-then-i-row t c =
+    let at = row_found c.args.self.now c.args.place _ c.deref.ensures.value c.in_ok-row.row c.in_ok-row.ensures.lookup in
+    kind_beyond _ _ _ at c.args.i c.if-i-row.true
+
+pub index-requires : goal.index-requires
+index-requires t c =
+    let at = row_found c.args.self.now c.args.place _ c.deref.ensures.value c.in_ok-row.row c.in_ok-row.ensures.lookup in
+    omega (arith, at.within, element_below _ _ _ at _ _ c.in-Array.is, c.args.self.now.rows.ok.0)
+
+pub index-requires-in-Sequence : goal.index-requires-in-Sequence
+index-requires-in-Sequence t c =
+    let at = row_found c.args.self.now c.args.place _ c.deref.ensures.value c.in_ok-row.row c.in_ok-row.ensures.lookup in
+    omega (arith, at.within, (parts_below _ _ _ at _ _ c.in-Sequence.is).0, c.args.self.now.rows.ok.0)
 
 pub kind-requires : goal.kind-requires
 kind-requires t c =
-    let s = c.args.self.now in
-    let within : c.args.place < length (shapes_in s) = omega (arith, s.shapes.ok.0) in
-    let lower = element_below (shapes_in s) c.args.place c.index.result.now within c.index.ensures s.below _ _ c.in-Array.is in
-    (omega (arith, lower, c.decreases), tt)
+    let at = row_found c.args.self.now c.args.place _ c.deref.ensures.value c.in_ok-row.row c.in_ok-row.ensures.lookup in
+    (omega (arith, element_below _ _ _ at _ _ c.in-Array.is, c.decreases), tt)
 
-pub kind-requires-then-i-size-2 : goal.kind-requires-then-i-size-2
-kind-requires-then-i-size-2 t c =
-    let s = c.args.self.now in
-    let within : c.args.place < length (shapes_in s) = omega (arith, s.shapes.ok.0) in
-    let lower = parts_below (shapes_in s) c.args.place c.index.result.now within c.index.ensures s.below _ _ c.in-Sequence.is in
-    (omega (arith, lower.0, c.decreases), tt)
+pub kind-requires-then-i-size : goal.kind-requires-then-i-size
+kind-requires-then-i-size t c =
+    let at = row_found c.args.self.now c.args.place _ c.deref.ensures.value c.in_ok-row.row c.in_ok-row.ensures.lookup in
+    (omega (arith, (parts_below _ _ _ at _ _ c.in-Sequence.is).0, c.decreases), tt)
 
-pub kind-requires-else-i-size-2 : goal.kind-requires-else-i-size-2
-kind-requires-else-i-size-2 t c =
-    let s = c.args.self.now in
-    let within : c.args.place < length (shapes_in s) = omega (arith, s.shapes.ok.0) in
-    let lower = parts_below (shapes_in s) c.args.place c.index.result.now within c.index.ensures s.below _ _ c.in-Sequence.is in
-    (omega (arith, lower.1, c.decreases), tt)
+pub kind-requires-else-i-size : goal.kind-requires-else-i-size
+kind-requires-else-i-size t c =
+    let at = row_found c.args.self.now c.args.place _ c.deref.ensures.value c.in_ok-row.row c.in_ok-row.ensures.lookup in
+    (omega (arith, (parts_below _ _ _ at _ _ c.in-Sequence.is).1, c.decreases), tt)
 
 pub returns-in-Scalar : goal.returns-in-Scalar
 returns-in-Scalar t c =
-    let s = c.args.self.now in
-    let within : c.args.place < length (shapes_in s) = omega (arith, s.shapes.ok.0) in
-    let inside : c.args.i < length (kinds_at s c.args.place) = omega (arith, c.size.ensures.value) in
-    scalar_kind (shapes_in s) c.args.place c.index.result.now within c.index.ensures s.below c.args.i inside _ c.in-Scalar.is
+    let at = row_found c.args.self.now c.args.place _ c.deref.ensures.value c.in_ok-row.row c.in_ok-row.ensures.lookup in
+    scalar_kind _ _ _ at c.args.i c.if-i-row.false _ c.in-Scalar.is
 
-pub returns-then-size-eq0 : goal.returns-then-size-eq0
-returns-then-size-eq0 t c =
+pub returns-in-Array : goal.returns-in-Array
+returns-in-Array t c =
     let s = c.args.self.now in
-    let within : c.args.place < length (shapes_in s) = omega (arith, s.shapes.ok.0) in
-    let inside : c.args.i < length (kinds_at s c.args.place) = omega (arith, c.size.ensures.value) in
-    let none : length (kinds_at s c.in-Array.element) ≡ 0 = omega (arith, c.size-size.ensures.value) in
-    absurd (array_some (shapes_in s) c.args.place c.index.result.now within c.index.ensures s.below c.args.i inside _ _ c.in-Array.is none)
+    let at = row_found s c.args.place _ c.deref.ensures.value c.in_ok-row.row c.in_ok-row.ensures.lookup in
+    let part : RowAt s c.in-Array.element c.index.result.now = record { within = omega (arith, at.within, element_below _ _ _ at _ _ c.in-Array.is); read = c.index.ensures } in
+    c.kind.ensures ∙ array_kind _ _ _ at c.args.i c.if-i-row.false _ _ c.index.result.now.size c.in-Array.is (size_at _ _ _ part)
 
-pub returns-else-size-eq0 : goal.returns-else-size-eq0
-returns-else-size-eq0 t c =
+pub returns-then-i-size : goal.returns-then-i-size
+returns-then-i-size t c =
     let s = c.args.self.now in
-    let within : c.args.place < length (shapes_in s) = omega (arith, s.shapes.ok.0) in
-    let inside : c.args.i < length (kinds_at s c.args.place) = omega (arith, c.size.ensures.value) in
-    c.kind.ensures ∙ array_kind (shapes_in s) c.args.place c.index.result.now within c.index.ensures s.below c.args.i inside _ _ c.size-size.result c.in-Array.is c.size-size.ensures.value
+    let at = row_found s c.args.place _ c.deref.ensures.value c.in_ok-row.row c.in_ok-row.ensures.lookup in
+    let part : RowAt s c.in-Sequence.first c.index-in-Sequence.result.now = record { within = omega (arith, at.within, (parts_below _ _ _ at _ _ c.in-Sequence.is).0); read = c.index-in-Sequence.ensures } in
+    c.kind-then-i-size.ensures ∙ first_kind _ _ _ at c.args.i c.if-i-row.false _ _ c.index-in-Sequence.result.now.size c.in-Sequence.is (size_at _ _ _ part) c.if-i-size.true
 
-pub returns-then-i-size-2 : goal.returns-then-i-size-2
-returns-then-i-size-2 t c =
+pub returns-else-i-size : goal.returns-else-i-size
+returns-else-i-size t c =
     let s = c.args.self.now in
-    let within : c.args.place < length (shapes_in s) = omega (arith, s.shapes.ok.0) in
-    let inside : c.args.i < length (kinds_at s c.args.place) = omega (arith, c.size.ensures.value) in
-    let left : c.args.i < length (kinds_at s c.in-Sequence.first) = omega (arith, c.size-size-in-Sequence.ensures.value) in
-    c.kind-then-i-size-2.ensures ∙ first_kind (shapes_in s) c.args.place c.index.result.now within c.index.ensures s.below c.args.i inside _ _ c.in-Sequence.is left
-
-pub returns-else-i-size-2 : goal.returns-else-i-size-2
-returns-else-i-size-2 t c =
-    let s = c.args.self.now in
-    let within : c.args.place < length (shapes_in s) = omega (arith, s.shapes.ok.0) in
-    let inside : c.args.i < length (kinds_at s c.args.place) = omega (arith, c.size.ensures.value) in
-    c.kind-else-i-size-2.ensures ∙ rest_kind (shapes_in s) c.args.place c.index.result.now within c.index.ensures s.below c.args.i inside _ _ c.size-size-in-Sequence.result c.in-Sequence.is c.size-size-in-Sequence.ensures.value c.if-i-size-2.false
+    let at = row_found s c.args.place _ c.deref.ensures.value c.in_ok-row.row c.in_ok-row.ensures.lookup in
+    let part : RowAt s c.in-Sequence.first c.index-in-Sequence.result.now = record { within = omega (arith, at.within, (parts_below _ _ _ at _ _ c.in-Sequence.is).0); read = c.index-in-Sequence.ensures } in
+    c.kind-else-i-size.ensures ∙ rest_kind _ _ _ at c.args.i c.if-i-row.false _ _ c.index-in-Sequence.result.now.size c.in-Sequence.is (size_at _ _ _ part) c.if-i-size.false
