@@ -1,7 +1,7 @@
 -- The rows of a table of shapes. Assumes nothing.
-use Rattle.std.proofs.Common.{◌≡◌, ℕ, zero, suc, ◌+◌, ◌-◌, ◌*◌, ◌%◌, ◌<◌, ◌≤◌, true, ◌⊎◌, List, [], ◌∷◌, ◌++◌, map, length, get_or, vec_items, take, drop, Some, None, Option, Bor, sym, refl, ap, ◌∙◌, inl, inr, ⊎_elim, mod-eq_of_lt, zero-mul, arith}
+use Rattle.std.proofs.Common.{◌≡◌, ℕ, zero, suc, ◌+◌, ◌-◌, ◌*◌, ◌%◌, ◌<◌, ◌≤◌, true, List, [], ◌∷◌, ◌++◌, map, length, get_or, vec_items, take, drop, Some, None, Option, Bor, sym, refl, ap, ◌∙◌, inl, inr, ⊎_elim, mod-eq_of_lt, zero-mul, arith}
 use native.Mathlib.Nat.{add-mod_right}
-use Rattle.std.proofs.lemmas.List.{get_or_at, get_or_read, get_or_append_left, get_or_past, length-map, get_or-map, map_push, length-append, length_push, length-take-le, drop_more, take-append-drop}
+use Rattle.std.proofs.lemmas.List.{get_or_at, get_or_read, get_or_append_left, get_or_past, get_or_push, length-map, get_or-map, map_push, length-append, length_push, length-take-le, drop_more, take-append-drop}
 use Rattle.std.proofs.lemmas.Bool.{and_parts, ltb-true, cases_lt}
 use Rattle.std.specs.Option.{MatchOption}
 use Rattle.std.specs.Slice.{IsItemAt}
@@ -96,6 +96,16 @@ length_at [] i = refl
 length_at (r ∷ rows) zero = refl
 length_at (r ∷ rows) (suc i) = length_at rows i
 
+pushed_below : (ss : List Shape) (s : Shape) → ((k : ℕ) → refers_below (get_or ss k (Scalar Char)) k ≡ true) → refers_below s (length ss) ≡ true → (k : ℕ) → refers_below (get_or (ss ++ s ∷ []) k (Scalar Char)) k ≡ true
+pushed_below ss s f last k = elim (cases_lt k (length ss)) [
+  | inl before ↦ rw get_or_append_left (f k)
+  | inr after ↦ by_end (k - length ss) (omega arith)
+]
+  where
+    by_end : (j : ℕ) → k ≡ length ss + j → refers_below (get_or (ss ++ s ∷ []) k (Scalar Char)) k ≡ true
+    by_end zero e = let here : k ≡ length ss = omega arith in rw (get_or_push ss s (Scalar Char) k (sym here), here) last
+    by_end (suc j) e = rw (get_or_past (ss ++ s ∷ []) k (Scalar Char) (omega (arith, length_push ss s)))
+
 -- one shape more in a table
 module _ (rows rows' : List Measured) (m : Measured) (more : rows' ≡ rows ++ m ∷ []) where
   shapes_more : shapes_of rows' ≡ shapes_of rows ++ m.shape ∷ []
@@ -107,21 +117,7 @@ module _ (rows rows' : List Measured) (m : Measured) (more : rows' ≡ rows ++ m
       ap sizes_of more ∙ map_push (λ r. r.size) rows m ∙ (λ t. e t ++ size t ∷ []) ∙ sym (map_push length (rows_of ss) (kinds_of (rows_of ss) m.shape)) ∙ ap (map length) (sym (rows_push [] ss m.shape)) ∙ ap (λ l. map length (rows_of l)) (sym shapes_more)
 
   pub below_more : ((k : ℕ) → refers_below (get_or (shapes_of rows) k (Scalar Char)) k ≡ true) → refers_below m.shape (length rows) ≡ true → (k : ℕ) → refers_below (get_or (shapes_of rows') k (Scalar Char)) k ≡ true
-  below_more f last k =
-      let ss = shapes_of rows in
-      let s = m.shape in
-      let long : length ss ≡ length rows = length-map rows (λ r. r.shape) in
-      let at : get_or (shapes_of rows') k (Scalar Char) ≡ get_or (ss ++ s ∷ []) k (Scalar Char) = ap (λ l. get_or l k (Scalar Char)) shapes_more in
-      ap (λ x. refers_below x k) at ∙ ⊎_elim
-      (λ before. ap (λ x. refers_below x k) (get_or_append_left ss (s ∷ []) (Scalar Char) k before) ∙ f k)
-      (λ not-before. ⊎_elim
-      (λ here. let e : k ≡ length ss = here in ap (λ x. refers_below x k) (get_or_at ss s [] (Scalar Char) k (sym e)) ∙ ap (refers_below s) (e ∙ long) ∙ last)
-      (λ past. ap (λ x. refers_below x k) (get_or_past (ss ++ s ∷ []) k (Scalar Char) (omega (arith, length_push ss s))))
-      (at_or_past k (length ss) not-before))
-      (cases_lt k (length ss))
-    where
-      at_or_past : (a b : ℕ) → b ≤ a → (a ≡ b) ⊎ (b < a)
-      at_or_past a b h = ⊎_elim (λ lt. inr lt) (λ le. inl (omega arith)) (cases_lt b a)
+  below_more f last k = rw shapes_more (pushed_below (shapes_of rows) m.shape f (rw length-map last) k)
 
 -- a row that stands at a place
 pub record RowAt (t : Shapes) (i : ℕ) (row : Measured) : Type 0 where

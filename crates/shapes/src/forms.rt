@@ -4,7 +4,7 @@ ghost use Rattle.shapes.specs.Forms.{refers_below};
 use value::kinds::Kind;
 
 // How a type lies in cells. Others are named by their place in a table.
-#[derive(Clone, Copy)]
+#[derive(Clone, Copy, PartialEq, Eq, Debug)]
 pub enum Shape {
     // one cell
     Scalar(Kind),
