@@ -32,7 +32,8 @@ fn divide(left: i64, right: i64) -> Result<(i64, i64), Stop>
 
 // `|` and `&`, both of whose sides are worked out already.
 fn connect(code: u8, left: Value, right: Value) -> Result<Value, Stop>
-    requires { (1 ≤ code) × (code ≤ 2) }
+    requires from { 1 ≤ code }
+    requires to { code ≤ 2 }
     ensures { result ≡ connective code left right }
 {
     match (code, left, right) {
@@ -44,21 +45,23 @@ fn connect(code: u8, left: Value, right: Value) -> Result<Value, Stop>
 
 // `==` and `!=`.
 fn equate(code: u8, left: Value, right: Value) -> Result<Value, Stop>
-    requires { (3 ≤ code) × (code ≤ 4) }
+    requires from { 3 ≤ code }
+    requires to { code ≤ 4 }
     ensures { result ≡ equality code left right }
 {
     let (a, b) = numbers(left, right)?;
     let holds = match code {
         3 => a == b,
         4 => a != b,
-        _ => return Err(Stop::Misfit),
+        _ => unreachable!(),
     };
     Ok(Value::Bool(holds))
 }
 
 // `<`, `>`, `<=` and `>=`, which bools do not have.
 fn order(code: u8, left: Value, right: Value) -> Result<Value, Stop>
-    requires { (5 ≤ code) × (code ≤ 8) }
+    requires from { 5 ≤ code }
+    requires to { code ≤ 8 }
     ensures { result ≡ comparison code left right }
 {
     if matches!(left, Value::Bool(_)) {
@@ -70,7 +73,7 @@ fn order(code: u8, left: Value, right: Value) -> Result<Value, Stop>
         6 => a > b,
         7 => a <= b,
         8 => a >= b,
-        _ => return Err(Stop::Misfit),
+        _ => unreachable!(),
     };
     Ok(Value::Bool(holds))
 }
@@ -78,7 +81,8 @@ fn order(code: u8, left: Value, right: Value) -> Result<Value, Stop>
 // `*`, `/`, `%`, `+` and `-`, wrapping at 64 bits.
 #[tactic(auto, using(std::proofs::lemmas::Int::wraps))]
 fn compute(code: u8, left: Value, right: Value) -> Result<Value, Stop>
-    requires { (9 ≤ code) × (code ≤ 13) }
+    requires from { 9 ≤ code }
+    requires to { code ≤ 13 }
     ensures { result ≡ arithmetic code left right }
 {
     let (Value::Int(a), Value::Int(b)) = (left, right) else {
@@ -90,7 +94,7 @@ fn compute(code: u8, left: Value, right: Value) -> Result<Value, Stop>
         11 => divide(a, b)?.1,
         12 => a.wrapping_add(b),
         13 => a.wrapping_sub(b),
-        _ => return Err(Stop::Misfit),
+        _ => unreachable!(),
     };
     Ok(Value::Int(number))
 }

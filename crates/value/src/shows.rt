@@ -2,6 +2,7 @@ ghost use Rattle.std.specs.Prelude.{Some};
 ghost use Rattle.value.specs.Texts.{stop_text, value_text};
 
 use crate::values::{Stop, Value};
+use reason::causes::Cause;
 use std::fmt;
 
 // As `char 65`.
