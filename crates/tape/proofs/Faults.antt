@@ -2,6 +2,7 @@
 use Rattle.std.proofs.Common.{◌≡◌, ℕ, zero, suc, ◌+◌, ◌-◌, ◌/◌, ◌%◌, ◌<◌, ◌≤◌, Bool, true, false, cond, ◌&&◌, eqb, leb, ◌⊎◌, List, [], ◌∷◌, length, get_or, take, drop, Some, None, Option, sym, refl, ap, ◌∙◌, subst, inl, inr, ⊎_elim, arith, lit≤}
 use Rattle.std.proofs.lemmas.List.{get_or-take, get_or-drop, length-take, length-drop}
 use Rattle.std.proofs.lemmas.Bool.{and_parts, and_cases, eq-eqb, eqb-true, eqb-false, leb-true, le-leb, both_ways}
+use Rattle.std.specs.Option.{option_or}
 use Rattle.buffers.specs.Records.{records_of, record_at}
 use Rattle.buffers.proofs.Cuts.{length-records, get_or-records}
 use Rattle.reason.specs.Numbers.{reason_number}
@@ -9,7 +10,7 @@ use Rattle.refusal.specs.Refusals.{Refusal, refused}
 use Rattle.reason.specs.declared.errors.LinkError.TheVariants.{Size, Mark, Padding, Range}
 use Rattle.reason.specs.declared.reasons.Reason.TheVariants.{Link}
 use Rattle.tape.specs.Entries.{marked, padded, sized, zeros, request_length, reply_count}
-use Rattle.tape.specs.Judgement.{judged, wrong, or_else, verdict, counted}
+use Rattle.tape.specs.Judgement.{judged, wrong, verdict, unless}
 use Rattle.tape.specs.Rules.{Faulty, mark, padding, request, reply, Broken, size, entry, Judged}
 
 -- a row of zeros, and one that is none
@@ -119,7 +120,7 @@ later_first : (n i : ℕ) (e : List ℕ) (es : List (List ℕ)) → ((m : ℕ) �
 later_first n i e es none rest zero m h f = absurd (none m f)
 later_first n i e es none rest (suc j) m h f = ⊎_elim (λ l. inl (omega arith)) (λ r. inr (ap suc r.0, r.1)) (rest j m (omega arith) f)
 
-judged_step : (k : ℕ) (e : List ℕ) (es : List (List ℕ)) (o p : Option Refusal) → Right k e o → AllRight (k + 1) es p → AllRight k (e ∷ es) (or_else o p)
+judged_step : (k : ℕ) (e : List ℕ) (es : List (List ℕ)) (o p : Option Refusal) → Right k e o → AllRight (k + 1) es p → AllRight k (e ∷ es) (option_or o p)
 judged_step k e es (Some x) p r a =
     let at : x.at ≡ k + 0 = omega (arith, r.0) in
     (0, omega arith, at, r.1, λ j m h f. here_first (reason_number x.cause) e es r.2 j m f)
@@ -163,7 +164,7 @@ module _ (bs : List ℕ) where
         (λ r. let same : k ≡ j = omega (arith, r.0) in inr (same, r.1))
         (a (j - 1) m (listed j some within) (faulty_at j some within f))
 
-    entries_judged : (o : Option Refusal) → AllRight 1 (records_of bs) o → Judged bs (counted (length bs / 18) o)
+    entries_judged : (o : Option Refusal) → AllRight 1 (records_of bs) o → Judged bs (unless (length bs / 18) o)
     entries_judged None a = (refl, λ j m b. none_broken a b)
     entries_judged (Some x) a =
         let i = a.0 in
@@ -174,7 +175,7 @@ module _ (bs : List ℕ) where
         (entry x.at (reason_number x.cause) low high f, λ j m b. before_all (reason_number x.cause) i x.at a.2 a.4 b)
 
   by_size : (whole : Bool) → (eqb (length bs % 18) 0 && leb (length bs / 18) 2000) ≡ whole →
-      Judged bs (counted (length bs / 18) (cond whole (judged 1 (records_of bs)) (Some (refused (Link Size) 0))))
+      Judged bs (unless (length bs / 18) (cond whole (judged 1 (records_of bs)) (Some (refused (Link Size) 0))))
   by_size true e =
       let p = and_parts _ _ e in
       entries_judged (eqb-true _ _ p.0) (leb-true _ _ p.1) (judged 1 (records_of bs)) (judged_right 1 (records_of bs))

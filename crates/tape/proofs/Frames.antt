@@ -2,6 +2,7 @@
 use Rattle.std.proofs.Common.{◌≡◌, ℕ, suc, ◌+◌, ◌/◌, ◌%◌, ◌<◌, ◌≤◌, cond, ◌&&◌, eqb, leb, List, [], ◌∷◌, map, length, get_or, take, drop, Some, None, sym, refl, ap, ◌∙◌, subst, arith, lit<, lit≤}
 use Rattle.std.proofs.lemmas.List.{ext_get_or, get_or-take, get_or-drop, length-take, length-drop, take-take}
 use Rattle.std.proofs.lemmas.Slice.Eq.{bytes_eq-Decides}
+use Rattle.std.specs.Option.{option_or}
 use Rattle.buffers.specs.Records.{records_of, record_at}
 use Rattle.buffers.proofs.Cuts.{length-records, get_or-records, length-record_at}
 use Rattle.link.specs.Cars.{silence, reply}
@@ -10,7 +11,7 @@ use Rattle.refusal.specs.Refusals.{refused}
 use Rattle.reason.specs.declared.errors.LinkError.TheVariants.{Size, Mark, Padding, Range}
 use Rattle.reason.specs.declared.reasons.Reason.TheVariants.{Link}
 use Rattle.tape.specs.Entries.{Exchange, exchange_of, zeros, sized, reply_count}
-use Rattle.tape.specs.Judgement.{judged, wrong, or_else, refusal_of, verdict, counted}
+use Rattle.tape.specs.Judgement.{judged, wrong, refusal_of, verdict, unless}
 use Rattle.tape.specs.Plays.{Standing, opened, unless_refused, tape_car, Replays}
 use Rattle.tape.specs.Fills.{OnlyFill}
 
@@ -74,7 +75,7 @@ judged_same k (e ∷ es) [] l s = absurd (omega arith)
 judged_same k (e ∷ es) (f ∷ fs) l s =
     let here = (s 0 (omega arith)).wrongs k in
     let rest = judged_same (k + 1) es fs (omega arith) (λ i h. s (suc i) (omega arith)) in
-    λ t. or_else (here t) (rest t)
+    λ t. option_or (here t) (rest t)
 
 exchanges_same : (es fs : List (List ℕ)) → length es ≡ length fs → ((i : ℕ) → i < length es → Same (get_or es i []) (get_or fs i [])) → map exchange_of es ≡ map exchange_of fs
 exchanges_same [] [] l s = refl
@@ -114,7 +115,7 @@ module _ (bs cs : List ℕ) (only : OnlyFill bs cs) where
       λ t. cond (eqb (only.size t % 18) 0 && leb (only.size t / 18) 2000) (j t) (Some (refused (Link Size) 0))
 
   pub verdict_same : verdict bs ≡ verdict cs
-  verdict_same = λ t. counted (only.size t / 18) (refusal_same t)
+  verdict_same = λ t. unless (only.size t / 18) (refusal_same t)
 
   pub opened_same : (s : Standing) → opened bs s ≡ opened cs s
   opened_same s =

@@ -1,5 +1,4 @@
 pub mod Judged
-pub mod Sends
 pub mod Faults
 pub mod Frames
 pub mod Inverted

@@ -2,7 +2,8 @@
 --
 -- An entry has 18 bytes: 0 and 1 are the mark QA; 2 is the request's length, 3 to 9 hold the request and then 0s; 10 to 17 are
 -- the frame: 10 is the count n of the reply, 11 to 10 + n hold the reply, and what follows is fill of any value.
-use Rattle.std.specs.Prelude.{◌≡◌, ℕ, Bool, true, ◌&&◌, List, [], ◌∷◌, take, drop, ◌==◌, nat_le, slice_index}
+use Rattle.std.specs.Prelude.{◌≡◌, ℕ, Bool, true, ◌&&◌, List, take, drop, ◌==◌, nat_le, slice_index}
+use Rattle.std.specs.List.{list_all}
 
 abbrev pub marked : List ℕ → Bool
 marked e = slice_index e 0 == 81 && slice_index e 1 == 65
@@ -14,8 +15,7 @@ abbrev pub reply_count : List ℕ → ℕ
 reply_count e = slice_index e 10
 
 abbrev pub zeros : List ℕ → Bool
-zeros [] = true
-zeros (b ∷ bs) = b == 0 && zeros bs
+zeros bs = list_all (λ b. b == 0) bs
 
 abbrev pub padded : List ℕ → Bool
 padded e = zeros (drop (request_length e) (take 7 (drop 3 e)))

@@ -1,5 +1,6 @@
 -- Fill: what follows the reply in an entry's frame. Assumes nothing.
-use Rattle.std.specs.Prelude.{◌≡◌, ℕ, ◌+◌, ◌-◌, ◌*◌, ◌/◌, ◌%◌, ◌<◌, ◌≤◌, Bool, cond, List, [], ◌∷◌, length, nat_le, slice_index}
+use Rattle.std.specs.Prelude.{◌≡◌, ℕ, ◌+◌, ◌-◌, ◌*◌, ◌/◌, ◌%◌, ◌<◌, ◌≤◌, Bool, cond, List, map, length, nat_le, slice_index}
+use Rattle.std.specs.List.{enumerate_from}
 use Rattle.buffers.specs.Records.{record_at}
 use Rattle.tape.specs.Entries.{reply_count}
 
@@ -16,11 +17,6 @@ is_fill bs p = nat_le (11 + slice_index bs (18 * (p / 18) + 10)) (p % 18)
 abbrev pub inverted_byte : List ℕ → ℕ → ℕ → ℕ
 inverted_byte bs p x = cond (is_fill bs p) (255 - x) x
 
--- bytes from place p on, so changed
-abbrev pub invert_from : List ℕ → ℕ → List ℕ → List ℕ
-invert_from bs p [] = []
-invert_from bs p (x ∷ xs) = inverted_byte bs p x ∷ invert_from bs (p + 1) xs
-
 -- the same tape with every fill byte replaced by another, all its bits inverted
 abbrev pub inverted : List ℕ → List ℕ
-inverted bs = invert_from bs 0 bs
+inverted bs = map (λ b. inverted_byte bs b.0 b.1) (enumerate_from 0 bs)

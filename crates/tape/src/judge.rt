@@ -1,8 +1,8 @@
-ghost use Rattle.std.specs.Prelude.{◌≡◌, length, drop};
+ghost use Rattle.std.specs.Prelude.{◌≡◌, drop};
 ghost use Rattle.refusal.specs.Refusals.{refused};
 ghost use Rattle.reason.specs.declared.reasons.Reason.TheVariants.{Link};
 ghost use Rattle.tape.specs.Entries.{zeros, sized};
-ghost use Rattle.tape.specs.Judgement.{wrong, refusal_of, verdict, passed};
+ghost use Rattle.tape.specs.Judgement.{wrong, verdict, unless};
 
 use reason::errors::LinkError;
 use reason::reasons::Reason;
@@ -18,29 +18,23 @@ fn refuse(error: LinkError, k: usize) -> Refusal
 fn is_padded(bytes: &[u8], n: usize) -> bool
     ensures { result ≡ zeros (drop n bytes.now) }
 {
-    for i in n..bytes.len() {
-        if bytes[i] != 0 {
-            return false;
-        }
-    }
-    true
+    bytes.iter().skip(n).all(|b| *b == 0)
 }
 
 fn is_sized(n: u8) -> bool
     ensures { result ≡ sized n }
 {
-    1 <= n && n <= 7
+    (1..=7).contains(&n)
 }
 
 // Judges the bytes of entry k.
-fn judge_entry(bytes: &[u8], k: usize) -> Result<(), Refusal>
-    requires { length bytes.now ≡ 18 }
-    ensures { result ≡ passed (wrong k bytes.now) }
+fn judge_entry(bytes: &[u8; 18], k: usize) -> Result<(), Refusal>
+    ensures { result ≡ unless tt (wrong k bytes.now) }
 {
     if bytes[0] != b'Q' || bytes[1] != b'A' {
         return Err(refuse(LinkError::Mark, k));
     }
-    if !is_padded(&bytes[3..10], bytes[2] as usize) {
+    if !is_padded(&bytes[3..10], usize::from(bytes[2])) {
         return Err(refuse(LinkError::Padding, k));
     }
     if !is_sized(bytes[2]) || !is_sized(bytes[10]) {
@@ -53,12 +47,12 @@ fn judge_entry(bytes: &[u8], k: usize) -> Result<(), Refusal>
 pub fn judge(bytes: &[u8]) -> Result<usize, Refusal>
     ensures { result ≡ verdict bytes.now }
 {
-    let n = bytes.len() / 18;
-    if bytes.len() % 18 != 0 || n > 2000 {
+    let (entries, rest) = bytes.as_chunks::<18>();
+    if !rest.is_empty() || entries.len() > 2000 {
         return Err(refuse(LinkError::Size, 0));
     }
-    for i in 0..n {
-        judge_entry(&bytes[18 * i..18 * i + 18], i + 1)?;
+    for (i, entry) in entries.iter().enumerate() {
+        judge_entry(entry, i + 1)?;
     }
-    Ok(n)
+    Ok(entries.len())
 }

@@ -54,16 +54,17 @@ impl Link for Tape {
     ghost short = { λ x. buffer_short x.present };
 
     fn send(&mut self, request: &[u8]) -> bool {
-        if self.place < self.entries.len() {
-            let entry = self.entries[self.place];
-            if entry.request.is(request) {
+        match self.entries.get(self.place) {
+            Some(entry) if entry.request.is(request) => {
                 self.present = entry.reply;
                 self.place += 1;
-                return true;
+                true
+            }
+            _ => {
+                self.present = Buffer::new();
+                false
             }
         }
-        self.present = Buffer::new();
-        false
     }
 
     fn count(&self) -> usize {

@@ -9,13 +9,12 @@ use buffers::Buffer;
 
 impl Entry {
     // What the 18 bytes of an entry say. No fill byte is read.
-    pub fn decode(bytes: &[u8]) -> Entry
-        requires whole { length bytes.now ≡ 18 }
-        requires fit { Fit bytes.now }
+    pub fn decode(bytes: &[u8; 18]) -> Entry
+        requires { Fit bytes.now }
         ensures { exchange result ≡ exchange_of bytes.now }
     {
-        let asked = bytes[2] as usize;
-        let given = bytes[10] as usize;
+        let asked = usize::from(bytes[2]);
+        let given = usize::from(bytes[10]);
         Entry {
             request: Buffer::prefix(&bytes[3..3 + asked]),
             reply: Buffer::prefix(&bytes[11..11 + given]),
@@ -31,7 +30,7 @@ pub fn decode_all(entries: &mut Vec<Entry>, bytes: &[u8])
     ensures capacity { vec_capacity entries.new ≡ vec_capacity entries.old }
 {
     entries.clear();
-    for i in 0..bytes.len() / 18 {
-        entries.push_reserved(Entry::decode(&bytes[18 * i..18 * i + 18]));
+    for entry in bytes.as_chunks::<18>().0 {
+        entries.push_reserved(Entry::decode(entry));
     }
 }

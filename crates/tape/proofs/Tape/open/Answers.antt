@@ -8,7 +8,7 @@ use Rattle.tape.specs.Rules.{Judged}
 use Rattle.tape.specs.Views.{standing}
 use Rattle.tape.proofs.Faults.{verdict_judged}
 use Rattle.tape.proofs.Frames.{verdict_same, opened_same, replays}
-use Rattle.tape.proofs.Judged.{counted_err, counted_ok}
+use Rattle.tape.proofs.Judged.{unless_err, unless_ok}
 use Rattle.tape.proofs.Tape.open.Goals as goal
 
 -- a refusal leaves the tape as it was
@@ -18,7 +18,7 @@ returns-in_err-n c =
     let s = standing c.args.self.now in
     let p = err_from_is_err_and c.from_residual.result c.from_residual.ensures.1 in
     let result : c.from_residual.result ≡ verdict bs = p.1 ∙ ap Err p.2 ∙ c.in_err-n.ensures in
-    let refusal = counted_err _ (refusal_of bs) _ (sym c.in_err-n.ensures) in
+    let refusal = unless_err _ (refusal_of bs) _ (sym c.in_err-n.ensures) in
     let after : s ≡ opened bs s = sym (ap (λ o. unless_refused o (map exchange_of (records_of bs)) s) refusal) in
     record {
       result = result;
@@ -33,7 +33,7 @@ returns c =
     let bs = c.args.bytes.now in
     let s = standing c.args.self.now in
     let result = c.in_ok-n.ensures in
-    let none = counted_ok _ (refusal_of bs) _ (sym result) in
+    let none = unless_ok _ (refusal_of bs) _ (sym result) in
     let taken : ◌≡◌ {A = Standing} (record { left = _; shown = _ }) (record { left = map exchange_of (records_of bs); shown = _ }) = λ t. record { left = c.decode_all.ensures.items t; shown = c.new-self.ensures t } in
     let after = taken ∙ sym (ap (λ o. unless_refused o (map exchange_of (records_of bs)) s) none) in
     record {

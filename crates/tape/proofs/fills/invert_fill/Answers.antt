@@ -1,16 +1,13 @@
-use Rattle.std.proofs.Common.{sym, ap, ◌∙◌, subst}
-use Rattle.std.proofs.lemmas.List.{take_all}
-use Rattle.tape.specs.Fills.{OnlyFill, invert_from}
-use Rattle.tape.proofs.Inverted.{fill_more, inverted_only}
+use Rattle.std.proofs.Common.{◌≡◌, sym, subst, rules, tests}
+use Rattle.std.proofs.lemmas.Iterator.{items_from_collect, YieldsList-from_map, YieldsList-from_slice}
+use Rattle.std.proofs.lemmas.Iterator.Consumers.{YieldsList-from_enumerate}
+use Rattle.std.proofs.lemmas.Result.{IfOk-weaker}
+use Rattle.tape.specs.Fills.{OnlyFill, inverted}
+use Rattle.tape.proofs.Inverted.{inverted_only}
 use Rattle.tape.proofs.fills.invert_fill.Goals as goal
 
-pub loop-p-preserved : goal.loop-p-preserved
-loop-p-preserved c =
+pub returns-clause-only : goal.returns-clause-only
+returns-clause-only c =
     let bs = c.args.bytes.now in
-    c.in_ok-push.ensures.items ∙ fill_more bs c.loop-p.p _ _ c.loop-p-test.true c.loop-p.invariant c.inverted_byte.ensures
-
-pub returns : goal.returns
-returns c =
-    let bs = c.args.bytes.now in
-    let all = c.loop-p.invariant ∙ ap (invert_from bs 0) (take_all c.loop-p.p bs c.loop-p-test.false) in
-    record { bytes = all; only = subst (OnlyFill bs) (sym all) (inverted_only bs) }
+    IfOk-weaker c.collect.result (λ v. v.items ≡ inverted bs) _ (λ v e. subst (OnlyFill bs) (sym e) (inverted_only bs))
+    (items_from_collect _ c.collect.ensures.ran (YieldsList-from_map _ _ (YieldsList-from_enumerate (YieldsList-from_slice bs cc) cc) c.map.ensures.closure (λ x r q k. search (rules, tests))))
