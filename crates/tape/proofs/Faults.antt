@@ -1,7 +1,8 @@
 -- The judgement of a tape tells the first rule that is broken. Assumes nothing.
 use Rattle.std.proofs.Common.{◌≡◌, ℕ, zero, suc, ◌+◌, ◌-◌, ◌/◌, ◌%◌, ◌<◌, ◌≤◌, Bool, true, false, cond, ◌&&◌, eqb, leb, ◌⊎◌, List, [], ◌∷◌, length, get_or, take, drop, Some, None, Option, sym, refl, ap, ◌∙◌, subst, inl, inr, ⊎_elim, arith, lit≤}
 use Rattle.std.proofs.lemmas.List.{get_or-take, get_or-drop, length-take, length-drop}
-use Rattle.std.proofs.lemmas.Bool.{and_parts, and_cases, eq-eqb, eqb-true, eqb-false, leb-true, le-leb, both_ways}
+use Rattle.std.proofs.lemmas.Bool.{and_parts, and_cases, eqb-false}
+use Rattle.std.proofs.lemmas.Bool.Decides.{nat_tests}
 use Rattle.std.specs.Option.{option_or}
 use Rattle.buffers.specs.Records.{records_of, record_at}
 use Rattle.buffers.proofs.Cuts.{length-records, get_or-records}
@@ -16,11 +17,11 @@ use Rattle.tape.specs.Rules.{Faulty, mark, padding, request, reply, Broken, size
 -- a row of zeros, and one that is none
 zeros_all : (xs : List ℕ) → zeros xs ≡ true → (j : ℕ) → get_or xs j 0 ≡ 0
 zeros_all [] e j = refl
-zeros_all (x ∷ xs) e zero = eqb-true x 0 (and_parts _ _ e).0
-zeros_all (x ∷ xs) e (suc j) = zeros_all xs (and_parts _ _ e).1 j
+zeros_all (x ∷ xs) e zero = grind (arith, nat_tests)
+zeros_all (x ∷ xs) e (suc j) = grind (arith, nat_tests, zeros_all xs)
 
 zeros_not : (xs : List ℕ) → zeros xs ≡ false → (j : ℕ) × (j < length xs) × (get_or xs j 0 ≡ 0 → ⊥)
-zeros_not [] e = let z : ◌≡◌ {A = ℕ} 0 1 = cc in absurd (omega arith)
+zeros_not [] e = cc
 zeros_not (x ∷ xs) e =
     ⊎_elim
     (λ here. (0, omega arith, eqb-false x 0 here))
@@ -30,20 +31,19 @@ zeros_not (x ∷ xs) e =
 -- the tests of one entry decide its rules
 module _ (e : List ℕ) where
   mark_kept : marked e ≡ true → (get_or e 0 0 ≡ 81 → get_or e 1 0 ≡ 65 → ⊥) → ⊥
-  mark_kept t f = let p = and_parts _ _ t in f (eqb-true _ _ p.0) (eqb-true _ _ p.1)
+  mark_kept t f = f (grind (arith, nat_tests)) (grind (arith, nat_tests))
 
   mark_broken : marked e ≡ false → Faulty e 2
-  mark_broken t = mark (λ q a. both_ways (marked e) t (let p = eq-eqb _ _ q in let r = eq-eqb _ _ a in (λ i. p i && r i)))
+  mark_broken t = mark (λ q a. grind (arith, nat_tests))
 
   request_byte : (j : ℕ) → request_length e + j < 7 → get_or (drop (request_length e) (take 7 (drop 3 e))) j 0 ≡ get_or e (3 + (request_length e + j)) 0
-  request_byte j h = get_or-drop (request_length e) (take 7 (drop 3 e)) j 0 ∙ get_or-take 7 (drop 3 e) (request_length e + j) 0 h ∙ get_or-drop 3 e (request_length e + j) 0
+  request_byte j h = simp (get_or-drop, get_or-take)
 
   padding_kept : padded e ≡ true → (i : ℕ) → request_length e ≤ i → i < 7 → get_or e (3 + i) 0 ≡ 0
   padding_kept t i low high =
       let n = request_length e in
       let at : n + (i - n) ≡ i = omega arith in
-      let within : n + (i - n) < 7 = omega arith in
-      ap (λ k. get_or e (3 + k) 0) (sym at) ∙ sym (request_byte (i - n) within) ∙ zeros_all _ t (i - n)
+      ap (λ k. get_or e (3 + k) 0) (sym at) ∙ sym (request_byte (i - n) (omega arith)) ∙ zeros_all _ t (i - n)
 
   padding_broken : padded e ≡ false → Faulty e 3
   padding_broken t =
@@ -53,10 +53,10 @@ module _ (e : List ℕ) where
       padding (n + r.0) (omega arith) within (λ z. r.2 (request_byte r.0 within ∙ z))
 
 sized_kept : (n : ℕ) → sized n ≡ true → (1 ≤ n → n ≤ 7 → ⊥) → ⊥
-sized_kept n t f = let p = and_parts _ _ t in f (leb-true _ _ p.0) (leb-true _ _ p.1)
+sized_kept n t f = f (grind (arith, nat_tests)) (grind (arith, nat_tests))
 
 sized_broken : (n : ℕ) → sized n ≡ false → 1 ≤ n → n ≤ 7 → ⊥
-sized_broken n t low high = both_ways (sized n) t (let p = le-leb 1 n low in let q = le-leb n 7 high in (λ i. p i && q i))
+sized_broken n t low high = grind (arith, nat_tests)
 
 range_broken : (e : List ℕ) → (sized (request_length e) && sized (reply_count e)) ≡ false → Faulty e 6
 range_broken e t = ⊎_elim (λ a. request (sized_broken _ a)) (λ b. reply (sized_broken _ b)) (and_cases _ _ t)
@@ -176,11 +176,8 @@ module _ (bs : List ℕ) where
 
   by_size : (whole : Bool) → (eqb (length bs % 18) 0 && leb (length bs / 18) 2000) ≡ whole →
       Judged bs (unless (length bs / 18) (cond whole (judged 1 (records_of bs)) (Some (refused (Link Size) 0))))
-  by_size true e =
-      let p = and_parts _ _ e in
-      entries_judged (eqb-true _ _ p.0) (leb-true _ _ p.1) (judged 1 (records_of bs)) (judged_right 1 (records_of bs))
-  by_size false e =
-      (size (λ a b. both_ways _ e (let p = eq-eqb _ _ a in let q = le-leb _ _ b in (λ i. p i && q i))), λ j m b. size_first b)
+  by_size true e = entries_judged (grind (arith, nat_tests)) (grind (arith, nat_tests)) (judged 1 (records_of bs)) (judged_right 1 (records_of bs))
+  by_size false e = (size (λ a b. grind (arith, nat_tests)), λ j m b. size_first b)
 
   pub verdict_judged : Judged bs (verdict bs)
   verdict_judged = by_size (eqb (length bs % 18) 0 && leb (length bs / 18) 2000) refl
