@@ -40,8 +40,5 @@ fit_at (r ∷ es) k zero e h =
     (grind (arith, nat_tests), grind (arith, nat_tests))
 fit_at (r ∷ es) k (suc i) e h = fit_at es (k + 1) i (grind arith) (omega arith)
 
-pub few_entries : (bs : List ℕ) → refusal_of bs ≡ None → length bs / 18 ≤ 2000
-few_entries bs e = grind (arith, nat_tests)
-
 pub entry_fits : (bs : List ℕ) (i : ℕ) → refusal_of bs ≡ None → i < length bs / 18 → Fit (get_or (records_of bs) i [])
 entry_fits bs i e h = fit_at (records_of bs) 1 i (grind arith) (omega (arith, length-records (length bs / 18) bs))
