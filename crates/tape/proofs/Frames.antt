@@ -68,23 +68,14 @@ pub record Same (e f : List ℕ) : Type 0 where
   pub wrongs : (k : ℕ) → wrong k e ≡ wrong k f
   pub exchanges : exchange_of e ≡ exchange_of f
 
-judged_same : (k : ℕ) (es fs : List (List ℕ)) → length es ≡ length fs → ((i : ℕ) → i < length es → Same (get_or es i []) (get_or fs i [])) → judged k es ≡ judged k fs
-judged_same k [] [] l s = refl
-judged_same k [] (f ∷ fs) l s = absurd (omega arith)
-judged_same k (e ∷ es) [] l s = absurd (omega arith)
-judged_same k (e ∷ es) (f ∷ fs) l s =
-    let here = (s 0 (omega arith)).wrongs k in
-    let rest = judged_same (k + 1) es fs (omega arith) (λ i h. s (suc i) (omega arith)) in
-    λ t. option_or (here t) (rest t)
-
-exchanges_same : (es fs : List (List ℕ)) → length es ≡ length fs → ((i : ℕ) → i < length es → Same (get_or es i []) (get_or fs i [])) → map exchange_of es ≡ map exchange_of fs
-exchanges_same [] [] l s = refl
-exchanges_same [] (f ∷ fs) l s = absurd (omega arith)
-exchanges_same (e ∷ es) [] l s = absurd (omega arith)
-exchanges_same (e ∷ es) (f ∷ fs) l s =
-    let here = (s 0 (omega arith)).exchanges in
-    let rest = exchanges_same es fs (omega arith) (λ i h. s (suc i) (omega arith)) in
-    λ t. here t ∷ rest t
+lists_same : (es fs : List (List ℕ)) → length es ≡ length fs → ((i : ℕ) → i < length es → Same (get_or es i []) (get_or fs i [])) → ((k : ℕ) → judged k es ≡ judged k fs) × (map exchange_of es ≡ map exchange_of fs)
+lists_same [] [] l s = (λ k. refl, refl)
+lists_same [] (f ∷ fs) l s = absurd (omega arith)
+lists_same (e ∷ es) [] l s = absurd (omega arith)
+lists_same (e ∷ es) (f ∷ fs) l s =
+    let here = s 0 (omega arith) in
+    let rest = lists_same es fs (omega arith) (λ i h. s (suc i) (omega arith)) in
+    (λ k t. option_or (here.wrongs k t) (rest.0 (k + 1) t), λ t. here.exchanges t ∷ rest.1 t)
 
 module _ (bs cs : List ℕ) (only : OnlyFill bs cs) where
   as_many : length bs / 18 ≡ length cs / 18
@@ -111,7 +102,7 @@ module _ (bs cs : List ℕ) (only : OnlyFill bs cs) where
 
   refusal_same : refusal_of bs ≡ refusal_of cs
   refusal_same =
-      let j = judged_same 1 (records_of bs) (records_of cs) lists_long each_same in
+      let j = (lists_same (records_of bs) (records_of cs) lists_long each_same).0 1 in
       λ t. cond (eqb (only.size t % 18) 0 && leb (only.size t / 18) 2000) (j t) (Some (refused (Link Size) 0))
 
   pub verdict_same : verdict bs ≡ verdict cs
@@ -119,7 +110,7 @@ module _ (bs cs : List ℕ) (only : OnlyFill bs cs) where
 
   pub opened_same : (s : Standing) → opened bs s ≡ opened cs s
   opened_same s =
-      let x = exchanges_same (records_of bs) (records_of cs) lists_long each_same in
+      let x = (lists_same (records_of bs) (records_of cs) lists_long each_same).1 in
       λ t. unless_refused (refusal_same t) (x t) s
 
 -- the requests of a tape, in order, get its replies, in order

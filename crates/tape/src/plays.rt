@@ -7,7 +7,7 @@ ghost use Rattle.tape.specs.Views.{standing};
 ghost use Rattle.tape.specs.Sounds.{entries_sound, buffer_short};
 
 use crate::Tape;
-use crate::entries::decode::decode_all;
+use crate::entries::Entry;
 use crate::judge::judge;
 use buffers::Buffer;
 use link::Link;
@@ -37,8 +37,11 @@ impl Tape {
         ensures plays { Replays (standing self.new).left }
     {
         let n = judge(bytes)?;
-        decode_all(&mut self.entries, bytes);
         self.place = 0;
+        self.entries.clear();
+        for entry in bytes.as_chunks::<18>().0 {
+            self.entries.push_reserved(Entry::decode(entry));
+        }
         self.present = Buffer::new();
         Ok(n)
     }

@@ -1,14 +1,15 @@
-use Rattle.std.proofs.Common.{◌≡◌, map, Err, sym, ap, ◌∙◌, subst}
+use Rattle.std.proofs.Common.{◌≡◌, ◌/◌, [], length, vec_items, drop, map, get_or, Err, sym, ap, ◌∙◌, subst, arith}
+use Rattle.std.proofs.lemmas.List.{take_all}
 use Rattle.std.proofs.lemmas.Result.{err_from_is_err_and}
 use Rattle.buffers.specs.Records.{records_of}
-use Rattle.tape.specs.Entries.{exchange_of}
+use Rattle.tape.specs.Entries.{Fit, exchange_of}
 use Rattle.tape.specs.Judgement.{refusal_of, verdict}
 use Rattle.tape.specs.Plays.{Standing, opened, unless_refused}
 use Rattle.tape.specs.Rules.{Judged}
-use Rattle.tape.specs.Views.{standing}
+use Rattle.tape.specs.Views.{exchange, standing}
 use Rattle.tape.proofs.Faults.{verdict_judged}
 use Rattle.tape.proofs.Frames.{verdict_same, opened_same, replays}
-use Rattle.tape.proofs.Judged.{unless_err, unless_ok}
+use Rattle.tape.proofs.Judged.{chunks-records, entry_fits, unless_err, unless_ok}
 use Rattle.tape.proofs.Tape.open.Goals as goal
 
 -- a refusal leaves the tape as it was
@@ -28,13 +29,22 @@ returns-in_err-n c =
       plays = replays s.left;
     }
 
+pub decode-requires : goal.decode-requires
+decode-requires c =
+    let bs = c.args.bytes.now in
+    let none = unless_ok _ (refusal_of bs) _ (sym c.in_ok-n.ensures) in
+    let same = c.as_chunks.ensures.front ∙ chunks-records (length bs / 18) bs in
+    subst (λ es. Fit (get_or es c.loop-entry.entry-index [])) (sym same) (entry_fits bs _ none (omega arith))
+
 pub returns : goal.returns
 returns c =
     let bs = c.args.bytes.now in
     let s = standing c.args.self.now in
     let result = c.in_ok-n.ensures in
     let none = unless_ok _ (refusal_of bs) _ (sym result) in
-    let taken : ◌≡◌ {A = Standing} (record { left = _; shown = _ }) (record { left = map exchange_of (records_of bs); shown = _ }) = λ t. record { left = c.decode_all.ensures.items t; shown = c.new-self.ensures t } in
+    let same = c.as_chunks.ensures.front ∙ chunks-records (length bs / 18) bs in
+    let all = c.loop-entry.invariant.1 ∙ ap (map exchange_of) (take_all _ _ c.loop-entry-test.false ∙ same) in
+    let taken : ◌≡◌ {A = Standing} (record { left = _; shown = _ }) (record { left = map exchange_of (records_of bs); shown = _ }) = λ t. record { left = (ap (λ n. map exchange (drop n (vec_items c.loop-entry.self.entries))) c.loop-entry.invariant.0 ∙ all) t; shown = c.new-self.ensures t } in
     let after = taken ∙ sym (ap (λ o. unless_refused o (map exchange_of (records_of bs)) s) none) in
     record {
       result = result;
