@@ -1,10 +1,10 @@
 -- The car that a bench unit means. Assumes nothing.
-use Rattle.std.specs.Prelude.{◌≡◌, ℕ, ◌+◌, ◌*◌, ◌/◌, ◌%◌, ◌<◌, List, [], ◌∷◌, ◌++◌, length, ◌≢◌, slice_index}
+use Rattle.std.specs.Prelude.{◌≡◌, ℕ, ◌+◌, ◌*◌, ◌/◌, ◌%◌, ◌<◌, List, [], ◌∷◌, ◌++◌, length, Some, None, Option, ◌≢◌, slice_index}
 use Rattle.std.specs.List.{flat_map, AllByRecursion}
 use Rattle.link.specs.Cars.{Answer, silence, reply, Car}
 use Rattle.bench.specs.Services.{service_of}
 use Rattle.bench.specs.declared.services.Service.{Service}
-use Rattle.bench.specs.declared.services.Service.TheVariants.{ListCodes, ClearCodes, Unknown}
+use Rattle.bench.specs.declared.services.Service.TheVariants.{ListCodes, ClearCodes}
 
 -- a code, high byte first
 abbrev pub two_bytes : ℕ → List ℕ
@@ -15,16 +15,16 @@ abbrev pub listed : List ℕ → List ℕ
 listed cs = (0x43 ∷ length cs ∷ []) ++ flat_map two_bytes cs
 
 -- what a service gets of a unit with these codes
-abbrev pub answer_to : Service → List ℕ → Answer
-answer_to ListCodes cs = reply (listed cs)
-answer_to ClearCodes cs = reply (0x44 ∷ [])
-answer_to Unknown cs = silence
+abbrev pub answer_to : Option Service → List ℕ → Answer
+answer_to (Some ListCodes) cs = reply (listed cs)
+answer_to (Some ClearCodes) cs = reply (0x44 ∷ [])
+answer_to None cs = silence
 
 -- and the codes that it leaves
-abbrev pub codes_after : Service → List ℕ → List ℕ
-codes_after ListCodes cs = cs
-codes_after ClearCodes cs = []
-codes_after Unknown cs = cs
+abbrev pub codes_after : Option Service → List ℕ → List ℕ
+codes_after (Some ListCodes) cs = cs
+codes_after (Some ClearCodes) cs = []
+codes_after None cs = cs
 
 abbrev pub bench_car : List ℕ → Car
 bench_car cs [] q = answer_to (service_of q) cs

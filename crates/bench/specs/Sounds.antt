@@ -1,5 +1,5 @@
 -- The cars of bench units are sound. Assumes nothing.
-use Rattle.std.specs.Prelude.{◌≡◌, ℕ, zero, suc, ◌*◌, ◌<◌, ◌≤◌, List, [], ◌∷◌, length, take, refl}
+use Rattle.std.specs.Prelude.{◌≡◌, ℕ, zero, suc, ◌*◌, ◌<◌, ◌≤◌, List, [], ◌∷◌, length, take, Some, None, Option, refl}
 use Rattle.std.proofs.Common.{arith, lit<, lit≤}
 use Rattle.std.specs.List.{flat_map}
 use Rattle.std.proofs.lemmas.List.{length-take}
@@ -9,7 +9,7 @@ use Rattle.link.specs.Cars.{Proper, Sound}
 use Rattle.bench.specs.Services.{service_of}
 use Rattle.bench.specs.Cars.{answer_to, bench_car, codes_after, listed, two_bytes}
 use Rattle.bench.specs.declared.services.Service.{Service}
-use Rattle.bench.specs.declared.services.Service.TheVariants.{ListCodes, ClearCodes, Unknown}
+use Rattle.bench.specs.declared.services.Service.TheVariants.{ListCodes, ClearCodes}
 
 pub length-two_bytes : (cs : List ℕ) → length (flat_map two_bytes cs) ≡ 2 * length cs
 length-two_bytes [] = refl
@@ -35,15 +35,15 @@ one_byte : (b : ℕ) → b < 256 → Bytes (b ∷ [])
 one_byte b h zero = h
 one_byte b h (suc k) = lit< tt
 
-answer_proper : (s : Service) (cs : List ℕ) → Codes cs → Proper (answer_to s cs)
-answer_proper ListCodes cs h = (omega arith, omega (arith, length-two_bytes cs, h.1), listed_below cs h.0 h.1)
-answer_proper ClearCodes cs h = (lit≤ tt, lit≤ tt, one_byte 0x44 (lit< tt))
-answer_proper Unknown cs h = tt
+answer_proper : (s : Option Service) (cs : List ℕ) → Codes cs → Proper (answer_to s cs)
+answer_proper (Some ListCodes) cs h = (omega arith, omega (arith, length-two_bytes cs, h.1), listed_below cs h.0 h.1)
+answer_proper (Some ClearCodes) cs h = (lit≤ tt, lit≤ tt, one_byte 0x44 (lit< tt))
+answer_proper None cs h = tt
 
-after_codes : (s : Service) (cs : List ℕ) → Codes cs → Codes (codes_after s cs)
-after_codes ListCodes cs h = h
-after_codes ClearCodes cs h = (λ k. lit< tt, omega arith)
-after_codes Unknown cs h = h
+after_codes : (s : Option Service) (cs : List ℕ) → Codes cs → Codes (codes_after s cs)
+after_codes (Some ListCodes) cs h = h
+after_codes (Some ClearCodes) cs h = (λ k. lit< tt, omega arith)
+after_codes None cs h = h
 
 pub bench_sound : (cs : List ℕ) → Codes cs → Sound (bench_car cs)
 bench_sound cs h [] q = answer_proper (service_of q) cs h

@@ -40,10 +40,10 @@ impl BenchUnit {
         let mut reply = Buffer::new();
         reply.push(0x43);
         reply.push(self.held as u8);
-        for i in 0..self.held {
-            let code = self.codes[i];
-            reply.push((code / 256) as u8);
-            reply.push((code % 256) as u8);
+        for code in &self.codes[..self.held] {
+            let [high, low] = code.to_be_bytes();
+            reply.push(high);
+            reply.push(low);
         }
         reply
     }
@@ -60,16 +60,16 @@ impl Link for BenchUnit {
 
     fn send(&mut self, request: &[u8]) -> bool {
         match service_of(request) {
-            Service::ListCodes => {
+            Some(Service::ListCodes) => {
                 self.present = self.list();
                 true
             }
-            Service::ClearCodes => {
+            Some(Service::ClearCodes) => {
                 self.held = 0;
                 self.present = Buffer::prefix(&[0x44]);
                 true
             }
-            Service::Unknown => {
+            None => {
                 self.present = Buffer::new();
                 false
             }

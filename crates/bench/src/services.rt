@@ -6,18 +6,15 @@ ghost use Rattle.bench.specs.Services.{service_of};
 pub enum Service {
     ListCodes,
     ClearCodes,
-    Unknown,
 }
 
-pub fn service_of(request: &[u8]) -> Service
+// The service that a request asks for, if it is one.
+pub fn service_of(request: &[u8]) -> Option<Service>
     ensures { result ≡ service_of request.now }
 {
-    if request.len() != 1 {
-        return Service::Unknown;
-    }
-    match request[0] {
-        0x03 => Service::ListCodes,
-        0x04 => Service::ClearCodes,
-        _ => Service::Unknown,
+    match request {
+        [0x03] => Some(Service::ListCodes),
+        [0x04] => Some(Service::ClearCodes),
+        _ => None,
     }
 }

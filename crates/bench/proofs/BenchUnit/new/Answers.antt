@@ -1,20 +1,12 @@
-use Rattle.std.proofs.Common.{◌≡◌}
-use Rattle.bench.proofs.Codes.{row_room, row_fits, row_codes, made_bench}
+use Rattle.bench.proofs.Codes.{row_room, row_fits}
 use Rattle.bench.proofs.Served.{bench_serves}
 use Rattle.bench.proofs.BenchUnit.new.Goals as goal
 
-pub invariant_of-result : goal.invariant_of-result
-invariant_of-result c =
-    let cs = c.args.codes.now in
-    let ds = c.copy_from_slice.new.self in
-    let same : ds ≡ cs = c.copy_from_slice.ensures.after in
-    let few = c.if-codes-gt30.false in
-    record { few = few; room = row_room cs ds same few; fits = row_fits cs ds same few c.type_inv.codes }
+pub invariant_of-result-clause-fits : goal.invariant_of-result-clause-fits
+invariant_of-result-clause-fits c = row_fits c.args.codes.now c.copy_from_slice.new.self c.copy_from_slice.ensures.after c.if-codes-gt30.false c.type_inv.codes
 
-pub returns : goal.returns
-returns c =
-    let cs = c.args.codes.now in
-    let ds = c.copy_from_slice.new.self in
-    let same : ds ≡ cs = c.copy_from_slice.ensures.after in
-    let few = c.if-codes-gt30.false in
-    record { result = made_bench cs _ _ (row_codes cs ds same few) c.new-2.ensures few; serves = bench_serves _ }
+pub invariant_of-result-clause-room : goal.invariant_of-result-clause-room
+invariant_of-result-clause-room c = row_room c.args.codes.now c.copy_from_slice.new.self c.copy_from_slice.ensures.after c.if-codes-gt30.false
+
+pub returns-clause-serves : goal.returns-clause-serves
+returns-clause-serves c = bench_serves _
