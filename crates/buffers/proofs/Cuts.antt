@@ -1,5 +1,5 @@
 -- Where the records of 18 bytes lie. Assumes nothing.
-use Rattle.std.proofs.Common.{◌≡◌, ℕ, zero, suc, ◌+◌, ◌-◌, ◌*◌, ◌/◌, ◌<◌, ◌≤◌, List, [], length, get_or, take, drop, sym, refl, ap, ◌∙◌, arith}
+use Rattle.std.proofs.Common.{◌≡◌, ℕ, zero, suc, ◌+◌, ◌-◌, ◌*◌, ◌/◌, ◌<◌, ◌≤◌, List, [], length, get_or, take, drop, refl, ap, ◌∙◌, arith}
 use Rattle.std.proofs.lemmas.List.{drop-drop, length-take, length-drop}
 use Rattle.buffers.specs.Records.{records, record_at}
 
@@ -7,22 +7,12 @@ pub length-records : (n : ℕ) (bs : List ℕ) → length (records n bs) ≡ n
 length-records zero bs = refl
 length-records (suc n) bs = ap suc (length-records n (drop 18 bs))
 
-pub record_from : (n : ℕ) (bs : List ℕ) (i : ℕ) → i < n → get_or (records n bs) i [] ≡ take 18 (drop (18 * i) bs)
+record_from : (n : ℕ) (bs : List ℕ) (i : ℕ) → i < n → get_or (records n bs) i [] ≡ take 18 (drop (18 * i) bs)
 record_from zero bs i h = absurd (omega arith)
 record_from (suc n) bs zero h = refl
 record_from (suc n) bs (suc i) h =
     let e : 18 + 18 * i ≡ 18 * suc i = omega arith in
     record_from n (drop 18 bs) i (omega arith) ∙ ap (take 18) (drop-drop (18 * i) 18 bs ∙ ap (λ k. drop k bs) e)
-
--- `&bytes[18 * i..18 * i + 18]`
-pub part_is : (bs : List ℕ) (i : ℕ) → take (18 * i + 18 - 18 * i) (drop (18 * i) bs) ≡ take 18 (drop (18 * i) bs)
-part_is bs i = let e : 18 * i + 18 - 18 * i ≡ 18 = omega arith in ap (λ n. take n (drop (18 * i) bs)) e
-
-pub part_at : (n : ℕ) (bs : List ℕ) (i : ℕ) → i < n → take (18 * i + 18 - 18 * i) (drop (18 * i) bs) ≡ get_or (records n bs) i []
-part_at n bs i h = part_is bs i ∙ sym (record_from n bs i h)
-
-pub part_length : (bs : List ℕ) (i : ℕ) → i < length bs / 18 → length (take (18 * i + 18 - 18 * i) (drop (18 * i) bs)) ≡ 18
-part_length bs i h = simp (length-take, length-drop) (omega arith)
 
 pub get_or-records : (n : ℕ) (bs : List ℕ) (i : ℕ) → i < n → get_or (records n bs) i [] ≡ record_at bs (i + 1)
 get_or-records n bs i h =
