@@ -58,14 +58,11 @@ fn a_bad_request_is_told(rt: HostRuntime) -> Result<(), Fail> {
         String::from_str(rt.alloc(), "03")?,
         String::from_str(rt.alloc(), "x3")?,
     ]?;
-    match read_requests(rt.alloc(), words.as_slice()) {
-        Ok(_) => Err(Fail::new("x3 was read")),
-        Err(failure) => {
-            let line = format!(in rt.alloc(); "{failure}")?;
-            assert!(rt; line.as_str() == "request #2 is no hexadecimal text");
-            Ok(())
-        }
-    }
+    let read = read_requests(rt.alloc(), words.as_slice());
+    let failure = read.err().ok_or("x3 was read")?;
+    let line = format!(in rt.alloc(); "{failure}")?;
+    assert!(rt; line.as_str() == "request #2 is no hexadecimal text");
+    Ok(())
 }
 
 #[test]
@@ -87,15 +84,12 @@ fn lines_for_the_mechanic(rt: HostRuntime) -> Result<(), Fail> {
 #[test]
 fn a_refused_tape_is_told(rt: HostRuntime) -> Result<(), Fail> {
     let none = vec![in rt.alloc()]?;
-    match compare_fills(rt.alloc(), &[81], none.as_slice()) {
-        Ok(_) => Err(Fail::new("a part of an entry")),
-        Err(failure) => {
-            let line = format!(in rt.alloc(); "{failure}")?;
-            assert!(rt;
-                line.as_str()
-                    == "the tape is refused: 1 at record 0, layer 5: the tape has more than 2,000 entries, or a part of one"
-            );
-            Ok(())
-        }
-    }
+    let compared = compare_fills(rt.alloc(), &[81], none.as_slice());
+    let failure = compared.err().ok_or("a part of an entry")?;
+    let line = format!(in rt.alloc(); "{failure}")?;
+    assert!(rt;
+        line.as_str()
+            == "the tape is refused: 1 at record 0, layer 5: the tape has more than 2,000 entries, or a part of one"
+    );
+    Ok(())
 }

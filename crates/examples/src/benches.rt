@@ -5,10 +5,7 @@ use std::test::Fail;
 use tape::Tape;
 
 fn made(codes: &[u16]) -> Result<BenchUnit, Fail> {
-    match BenchUnit::new(codes) {
-        Ok(unit) => Ok(unit),
-        Err(_) => Err(Fail::new("refused")),
-    }
+    BenchUnit::new(codes).map_err(|_| Fail::new("refused"))
 }
 
 #[test]
@@ -30,16 +27,12 @@ fn thirty_codes_and_no_more(rt: HostRuntime) -> Result<(), Fail> {
     let mut full = made(&[0xffff; 30])?;
     assert!(rt; full.send(&[3]));
     assert_eq!(rt; full.count(), 62);
-    match BenchUnit::new(&[0; 31]) {
-        Ok(_) => Err(Fail::new("31 codes")),
-        Err(refusal) => {
-            assert_eq!(rt;
-                (refusal.number(), refusal.record(), refusal.layer().number()),
-                (6, 0, 5)
-            );
-            Ok(())
-        },
-    }
+    let refusal = BenchUnit::new(&[0; 31]).err().ok_or("31 codes")?;
+    assert_eq!(rt;
+        (refusal.number(), refusal.record(), refusal.layer().number()),
+        (6, 0, 5)
+    );
+    Ok(())
 }
 
 // A tape and a unit that mean the same car for a while, side by side.

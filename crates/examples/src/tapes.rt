@@ -13,20 +13,16 @@ fn short_reply(fill: u8) -> [u8; 18] {
     ]
 }
 
-// The number and the record of a refusal, or 0 and 0.
-fn told(verdict: Result<usize, Refusal>) -> (u8, usize) {
-    match verdict {
-        Ok(_) => (0, 0),
-        Err(refusal) => (refusal.number(), refusal.record()),
-    }
+// The number and the record of a refusal.
+fn told(verdict: Result<usize, Refusal>) -> Option<(u8, usize)> {
+    let refusal = verdict.err()?;
+    Some((refusal.number(), refusal.record()))
 }
 
 fn opened(rt: &HostRuntime, bytes: &[u8]) -> Result<Tape, Fail> {
     let mut tape = Tape::new(rt.alloc())?;
-    match tape.open(bytes) {
-        Ok(_) => Ok(tape),
-        Err(_) => Err(Fail::new("refused")),
-    }
+    tape.open(bytes).map_err(|_| Fail::new("refused"))?;
+    Ok(tape)
 }
 
 #[test]
@@ -80,15 +76,15 @@ fn only_the_request_that_is_due_is_answered(rt: HostRuntime) -> Result<(), Fail>
 }
 
 // Two bytes of an entry changed, and the refusal that follows.
-const CASES: [(usize, u8, usize, u8, u8); 8] = [
-    (1, b'B', 9, 1, 2),
-    (4, 1, 4, 1, 3),
-    (2, 0, 2, 0, 3),
-    (2, 0, 3, 0, 6),
-    (2, 8, 2, 8, 6),
-    (10, 0, 10, 0, 6),
-    (10, 8, 10, 8, 6),
-    (10, 7, 10, 7, 0),
+const CASES: [(usize, u8, usize, u8, Option<u8>); 8] = [
+    (1, b'B', 9, 1, Some(2)),
+    (4, 1, 4, 1, Some(3)),
+    (2, 0, 2, 0, Some(3)),
+    (2, 0, 3, 0, Some(6)),
+    (2, 8, 2, 8, Some(6)),
+    (10, 0, 10, 0, Some(6)),
+    (10, 8, 10, 8, Some(6)),
+    (10, 7, 10, 7, None),
 ];
 
 #[test]
@@ -100,14 +96,14 @@ fn refusals(rt: HostRuntime) -> Result<(), Fail> {
             entry[i] = v;
             entry[j] = w;
         }
-        assert_eq!(rt; told(tape.open(&entry)).0, number);
+        assert_eq!(rt; told(tape.open(&entry)).map(|(number, _)| number), number);
     }
-    assert_eq!(rt; told(tape.open(&short_reply(0)[0..17])), (1, 0));
+    assert_eq!(rt; told(tape.open(&short_reply(0)[0..17])), Some((1, 0)));
     let long = vec![in rt.alloc(); 0; 18 * 2001]?;
-    assert_eq!(rt; told(tape.open(long.as_slice())), (1, 0));
+    assert_eq!(rt; told(tape.open(long.as_slice())), Some((1, 0)));
     let mut two = short_reply(0).to_vec(rt.alloc())?;
     two.extend_from_slice(&[0; 18])?;
-    assert_eq!(rt; told(tape.open(two.as_slice())), (2, 2));
+    assert_eq!(rt; told(tape.open(two.as_slice())), Some((2, 2)));
     Ok(())
 }
 
@@ -115,7 +111,7 @@ fn refusals(rt: HostRuntime) -> Result<(), Fail> {
 fn a_refusal_leaves_the_tape(rt: HostRuntime) -> Result<(), Fail> {
     let mut tape = opened(&rt, &short_reply(0))?;
     assert!(rt; tape.send(&[3]));
-    assert_eq!(rt; told(tape.open(&[1])), (1, 0));
+    assert_eq!(rt; told(tape.open(&[1])), Some((1, 0)));
     assert_eq!(rt; tape.count(), 2);
     assert!(rt; !tape.send(&[3]), "it stands where it stood");
     assert_eq!(rt; tape.open(&short_reply(0)).is_ok(), true);
