@@ -1,5 +1,5 @@
 -- The row that `new` finds, and the way back. Assumes nothing.
-use Rattle.std.proofs.Common.{◌≡◌, ℕ, zero, suc, ◌+◌, ◌<◌, ◌≤◌, Bool, true, false, cond, List, [], ◌∷◌, length, get_or, set, replicate, Some, None, Option, sym, refl, ap, ◌∙◌, subst, ⊎_elim, arith}
+use Rattle.std.proofs.Common.{◌≡◌, ℕ, zero, suc, ◌+◌, ◌<◌, ◌≤◌, Bool, true, false, cond, List, [], ◌∷◌, length, get_or, set, replicate, Some, None, Option, sym, refl, ap, ◌∙◌, subst, ⊎_elim, arith, rules}
 use Rattle.std.proofs.lemmas.List.{get_or_default, get_or_past, set_comm, set-get_or, set-set}
 use Rattle.std.proofs.lemmas.Bool.{and_parts, and_from, both_ways, cases_lt}
 use Rattle.value.specs.declared.kinds.Kind.TheVariants.{Char}
@@ -10,12 +10,7 @@ use Rattle.cells.specs.declared.cell.Cell.{Cell}
 use Rattle.cells.specs.declared.cell.Cell.TheVariants as cell
 
 dead_is : (c : Cell) → is_dead c ≡ true → c ≡ cell.Dead
-dead_is cell.Dead e = refl
-dead_is (cell.Unwritten k) e = let z : ◌≡◌ {A = ℕ} 0 1 = cc in absurd (omega arith)
-dead_is (cell.Char x) e = let z : ◌≡◌ {A = ℕ} 0 1 = cc in absurd (omega arith)
-dead_is (cell.Int n) e = let z : ◌≡◌ {A = ℕ} 0 1 = cc in absurd (omega arith)
-dead_is (cell.Bool b) e = let z : ◌≡◌ {A = ℕ} 0 1 = cc in absurd (omega arith)
-dead_is (cell.Pointer n) e = let z : ◌≡◌ {A = ℕ} 0 1 = cc in absurd (omega arith)
+dead_is c e = search rules
 
 -- a dead cell is one of the table
 dead_within : (cs : List Cell) (i : ℕ) → dead_at cs i ≡ true → i < length cs

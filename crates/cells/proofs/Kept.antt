@@ -1,13 +1,11 @@
 -- What the calls leave as it was. Assumes nothing.
-use Rattle.std.proofs.Common.{◌≡◌, ℕ, zero, suc, ◌+◌, ◌-◌, ◌≤◌, true, eqb, leb, List, [], ◌∷◌, map, length, get_or, take, drop, set, replicate, ℤ, Some, None, Ok, Err, Option, Result, sym, refl, ap, ◌∙◌, ⊎_elim, arith}
+use Rattle.std.proofs.Common.{◌≡◌, ℕ, zero, suc, ◌+◌, ◌-◌, ◌≤◌, true, eqb, leb, List, [], ◌∷◌, map, length, get_or, take, drop, set, replicate, ℤ, Some, None, Ok, Err, Option, Result, sym, refl, ap, ◌∙◌, ⊎_elim, arith, rules}
 use Rattle.std.proofs.lemmas.List.{length-replicate, map-set, set-get_or, take-set-le, drop-set-lt}
 use Rattle.std.proofs.lemmas.Bool.{cond_both, leb-true, cases_lt}
 use Rattle.value.specs.Values.{kind_of}
 use Rattle.value.specs.declared.kinds.Kind.{Kind}
-use Rattle.value.specs.declared.kinds.Kind.TheVariants as kind
 use Rattle.value.specs.declared.values.Stop.{Stop}
 use Rattle.value.specs.declared.values.Value.{Value}
-use Rattle.value.specs.declared.values.Value.TheVariants as value
 use Rattle.cells.specs.Cells.{at, as_kind, cell_at, cell_of, index_of, is_kind, kind_in, no_cell, rank, written_by}
 use Rattle.cells.specs.Fits.{first_row}
 use Rattle.cells.specs.Laws.{KeepsKinds, KeepsFirst, LeavesHeap, LeavesVariables}
@@ -78,33 +76,13 @@ deleted_keeps a m = deleted_at_keeps (index_of a) m
 
 -- writing
 rank_same : (j k : Kind) → eqb (rank j) (rank k) ≡ true → j ≡ k
-rank_same kind.Char kind.Char e = refl
-rank_same kind.Char kind.Int e = let z : ◌≡◌ {A = ℕ} 0 1 = cc in absurd (omega arith)
-rank_same kind.Char kind.Bool e = let z : ◌≡◌ {A = ℕ} 0 1 = cc in absurd (omega arith)
-rank_same kind.Char kind.Pointer e = let z : ◌≡◌ {A = ℕ} 0 1 = cc in absurd (omega arith)
-rank_same kind.Int kind.Char e = let z : ◌≡◌ {A = ℕ} 0 1 = cc in absurd (omega arith)
-rank_same kind.Int kind.Int e = refl
-rank_same kind.Int kind.Bool e = let z : ◌≡◌ {A = ℕ} 0 1 = cc in absurd (omega arith)
-rank_same kind.Int kind.Pointer e = let z : ◌≡◌ {A = ℕ} 0 1 = cc in absurd (omega arith)
-rank_same kind.Bool kind.Char e = let z : ◌≡◌ {A = ℕ} 0 1 = cc in absurd (omega arith)
-rank_same kind.Bool kind.Int e = let z : ◌≡◌ {A = ℕ} 0 1 = cc in absurd (omega arith)
-rank_same kind.Bool kind.Bool e = refl
-rank_same kind.Bool kind.Pointer e = let z : ◌≡◌ {A = ℕ} 0 1 = cc in absurd (omega arith)
-rank_same kind.Pointer kind.Char e = let z : ◌≡◌ {A = ℕ} 0 1 = cc in absurd (omega arith)
-rank_same kind.Pointer kind.Int e = let z : ◌≡◌ {A = ℕ} 0 1 = cc in absurd (omega arith)
-rank_same kind.Pointer kind.Bool e = let z : ◌≡◌ {A = ℕ} 0 1 = cc in absurd (omega arith)
-rank_same kind.Pointer kind.Pointer e = refl
+rank_same j k e = search rules
 
 is_kind_same : (o : Option Kind) (k : Kind) → is_kind o k ≡ true → o ≡ Some k
-is_kind_same None k e = let z : ◌≡◌ {A = ℕ} 0 1 = cc in absurd (omega arith)
-is_kind_same (Some j) k e = ap Some (rank_same j k e)
+is_kind_same o k e = search (rules, rank_same)
 
 holding_kind : (v : Value) → kind_in (cell_of v) ≡ kind_of v
-holding_kind value.Nothing = refl
-holding_kind (value.Char c) = refl
-holding_kind (value.Int n) = refl
-holding_kind (value.Bool b) = refl
-holding_kind (value.Pointer n) = refl
+holding_kind v = search rules
 
 -- a result that is a cell has the kind of another
 abbrev SameKind : Cell → Result Cell Stop → Type 0

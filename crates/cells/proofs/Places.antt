@@ -1,9 +1,10 @@
 -- The search for a row. Assumes nothing.
-use Rattle.std.proofs.Common.{◌≡◌, ℕ, suc, ◌+◌, ◌-◌, ◌<◌, ◌≤◌, Bool, true, false, cond, ◌&&◌, List, length, get_or, Some, None, Option, sym, ap, ◌∙◌, arith}
+use Rattle.std.proofs.Common.{◌≡◌, ℕ, suc, ◌+◌, ◌-◌, ◌<◌, ◌≤◌, Bool, true, false, cond, ◌&&◌, List, length, get_or, Some, None, Option, not, sym, rules, ap, ◌∙◌, arith}
 use Rattle.value.specs.declared.kinds.Kind.TheVariants.{Char}
 use Rattle.std.proofs.lemmas.List.{get_or_past, get_or_default}
 use Rattle.cells.specs.declared.cell.Cell.{Cell}
-use Rattle.cells.specs.declared.cell.Cell.TheVariants.{Unwritten}
+use Rattle.cells.specs.contracts.cell.CellPartialEq.TheImpl as eq
+use Rattle.cells.specs.declared.cell.Cell.TheVariants.{Dead, Unwritten}
 use Rattle.cells.specs.Fits.{dead_at, is_dead, row, first_from}
 
 -- one cell of a row
@@ -50,8 +51,11 @@ unfolding first_from
 from_none cs n i d e = ap (first_from cs n i) e
 
 -- what a cell that was read says
-pub dead_read : (cs : List Cell) (j : ℕ) (d : Cell) (r b : Bool) → j < length cs → r ≡ is_dead (get_or cs j d) → r ≡ b → dead_at cs j ≡ b
-dead_read cs j d r b h e q = ap is_dead (get_or_default cs j (Unwritten Char) d h) ∙ sym e ∙ q
+same_dead : (c : Cell) → not (not (eq.ghosts.eq c Dead)) ≡ is_dead c
+same_dead c = search rules
+
+pub dead_read : (cs : List Cell) (j : ℕ) (d : Cell) (r b : Bool) → j < length cs → r ≡ not (eq.ghosts.eq (get_or cs j d) Dead) → r ≡ b → dead_at cs j ≡ not b
+dead_read cs j d r b h e q = ap is_dead (get_or_default cs j (Unwritten Char) d h) ∙ sym (same_dead (get_or cs j d)) ∙ ap not (sym e ∙ q)
 
 pub start_ends : (cs : List Cell) (s i n : ℕ) {r : Option ℕ} → s < length cs → i < n → row cs s n ≡ row cs (s + i) (n - i) → dead_at cs (s + i) ≡ false → first_from cs n s (length cs - s) ≡ r → first_from cs n (s + 1) (length cs - (s + 1)) ≡ r
 start_ends cs s i n h k e d q = sym (from_next cs n s h (e ∙ row_ends cs s i n k d)) ∙ q

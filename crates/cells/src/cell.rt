@@ -6,7 +6,7 @@ use value::kinds::Kind;
 use value::values::{Stop, Value};
 
 // A cell: dead, or alive with a kind, unwritten or holding a number of that kind.
-#[derive(Clone, Copy)]
+#[derive(Clone, Copy, PartialEq, Eq, Debug)]
 pub enum Cell {
     Dead,
     Unwritten(Kind),
@@ -36,8 +36,8 @@ impl Cell {
         ensures { result ≡ contents_of self }
     {
         match self {
-            Cell::Dead => Err(Stop::Fault(RunFault::NoCell)),
-            Cell::Unwritten(_) => Err(Stop::Fault(RunFault::Unwritten)),
+            Cell::Dead => Err(RunFault::NoCell.into()),
+            Cell::Unwritten(_) => Err(RunFault::Unwritten.into()),
             Cell::Char(c) => Ok(Value::Char(c)),
             Cell::Int(n) => Ok(Value::Int(n)),
             Cell::Bool(b) => Ok(Value::Bool(b)),
@@ -45,10 +45,35 @@ impl Cell {
         }
     }
 
-    // A cell that holds a value.
-    pub fn holding(value: Value) -> Cell
-        ensures { result ≡ cell_of value }
+    // What reading it as a kind gives: fault 32 where it is dead or of another kind, then 33 where it is unwritten.
+    pub fn read(self, kind: Kind) -> Result<Value, Stop>
+        ensures { result ≡ read_cell kind self }
     {
+        if self.kind() == Some(kind) {
+            self.contents()
+        } else {
+            Err(RunFault::NoCell.into())
+        }
+    }
+
+    // The cell that writing a value makes of it: fault 32 where it is dead or of another kind.
+    pub fn written(self, value: Value) -> Result<Cell, Stop>
+        ensures { result ≡ written_by value self }
+    {
+        let kind = value.kind().ok_or(Stop::Misfit)?;
+        if self.kind() == Some(kind) {
+            Ok(value.into())
+        } else {
+            Err(RunFault::NoCell.into())
+        }
+    }
+}
+
+// A cell that holds a value.
+impl From<Value> for Cell {
+    ghost from_gives = { λ v c. c ≡ cell_of v };
+
+    fn from(value: Value) -> Cell {
         match value {
             Value::Nothing => Cell::Dead,
             Value::Char(c) => Cell::Char(c),
@@ -57,42 +82,6 @@ impl Cell {
             Value::Pointer(n) => Cell::Pointer(n),
         }
     }
-
-    // What reading it as a kind gives: fault 32 where it is dead or of another kind, then 33 where it is unwritten.
-    pub fn read(self, kind: Kind) -> Result<Value, Stop>
-        ensures { result ≡ read_cell kind self }
-    {
-        if is_kind(self.kind(), kind) {
-            self.contents()
-        } else {
-            Err(Stop::Fault(RunFault::NoCell))
-        }
-    }
-
-    // The cell that writing a value makes of it: fault 32 where it is dead or of another kind.
-    pub fn written(self, value: Value) -> Result<Cell, Stop>
-        ensures { result ≡ written_by value self }
-    {
-        match value.kind() {
-            None => Err(Stop::Misfit),
-            Some(kind) => {
-                if is_kind(self.kind(), kind) {
-                    Ok(Cell::holding(value))
-                } else {
-                    Err(Stop::Fault(RunFault::NoCell))
-                }
-            }
-        }
-    }
-}
-
-fn is_kind(found: Option<Kind>, wanted: Kind) -> bool
-    ensures { result ≡ is_kind found wanted }
-{
-    match found {
-        None => false,
-        Some(kind) => kind as u8 == wanted as u8,
-    }
 }
 
 // The place in the table of the cell with a number, counted from 1.
@@ -100,9 +89,8 @@ pub fn index_of(address: i64) -> Option<usize>
     ensures value { result ≡ index_of address }
     ensures within { IfSome result (λ i. i < 2048) }
 {
-    if 1 <= address && address <= 2048 {
-        Some((address - 1) as usize)
-    } else {
-        None
+    match address {
+        1..=2048 => Some((address - 1) as usize),
+        _ => None,
     }
 }

@@ -1,16 +1,7 @@
 ghost use Rattle.std.specs.Prelude.{◌≡◌, ◌<◌, length, IfSome};
-ghost use Rattle.cells.specs.Fits.{first_row, is_dead};
+ghost use Rattle.cells.specs.Fits.{first_row};
 
 use crate::cell::Cell;
-
-fn is_dead(cell: Cell) -> bool
-    ensures { result ≡ is_dead cell }
-{
-    match cell {
-        Cell::Dead => true,
-        _ => false,
-    }
-}
 
 // The lowest place at which enough dead cells stand in a row.
 pub fn first_fit(cells: &[Cell], size: usize) -> Option<usize>
@@ -19,7 +10,7 @@ pub fn first_fit(cells: &[Cell], size: usize) -> Option<usize>
 {
     'starts: for start in 0..cells.len() {
         'row: for i in 0..size {
-            if i >= cells.len() - start || !is_dead(cells[start + i]) {
+            if i >= cells.len() - start || cells[start + i] != Cell::Dead {
                 continue 'starts;
             }
         }

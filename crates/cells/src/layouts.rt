@@ -27,6 +27,6 @@ impl Layout for Kind {
     }
 
     fn kind(&self, i: usize) -> Option<Kind> {
-        if i == 0 { Some(*self) } else { None }
+        (i == 0).then_some(*self)
     }
 }

@@ -26,13 +26,11 @@ impl Request {
         ensures result { result ≡ (put number (held self.old.bytes)).0 }
         ensures after { held self.new.bytes ≡ (put number (held self.old.bytes)).1 }
     {
-        if number < 0 || number > 255 {
-            return Err(Stop::Fault(RunFault::RequestByte));
-        }
-        if self.bytes.push(number as u8) {
+        let byte = u8::try_from(number).map_err(|_| RunFault::RequestByte)?;
+        if self.bytes.push(byte) {
             Ok(())
         } else {
-            Err(Stop::Fault(RunFault::RequestByte))
+            Err(RunFault::RequestByte.into())
         }
     }
 

@@ -21,7 +21,7 @@ impl Findings {
         ensures after { numbers self.new ≡ (added number (numbers self.old)).1 }
     {
         if self.numbers.len() >= 32 {
-            return Err(Stop::Fault(RunFault::FindingsFull));
+            return Err(RunFault::FindingsFull.into());
         }
         self.numbers.push_reserved(number);
         Ok(())
@@ -37,11 +37,7 @@ impl Findings {
     pub fn get(&self, k: usize) -> Option<i64>
         ensures { result ≡ number_at (numbers self.now) k }
     {
-        if k < self.numbers.len() {
-            Some(self.numbers[k])
-        } else {
-            None
-        }
+        self.numbers.get(k).copied()
     }
 
     pub fn clear(&mut self)

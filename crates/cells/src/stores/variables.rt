@@ -43,7 +43,7 @@ impl Store {
         if used > 1023 {
             return Err(Stop::Fault(RunFault::StackFull));
         }
-        put(&mut self.cells, used, Cell::holding(value));
+        put(&mut self.cells, used, Cell::from(value));
         self.used = used + 1;
         Ok((used + 1) as i64)
     }

@@ -2,7 +2,7 @@ use Rattle.std.proofs.Common.{◌≡◌, ◌+◌, ◌-◌, true, false, length, 
 use Rattle.cells.specs.Fits.{row, first_from, first_row, dead_at}
 use Rattle.cells.proofs.Places.{row_more, row_none, dead_past, dead_read, start_ends, from_here, from_none}
 use Rattle.cells.proofs.fits.first_fit.Goals as goal
-use Rattle.cells.proofs.fits.first_fit.Goals.{then-i-cells-via-then-i-cells, then-i-cells-via-else-i-cells+then-not-is_dead}
+use Rattle.cells.proofs.fits.first_fit.Goals.{then-i-cells-via-then-i-cells, then-i-cells-via-else-i-cells+then-ne}
 
 pub starts-init : goal.starts-init
 unfolding first_row
@@ -17,7 +17,7 @@ starts-preserved c =
       omega arith,
       elim c.then-i-cells.branch [
         | then-i-cells-via-then-i-cells w ↦ ends (dead_past cs (s + i) (omega (arith, w.if-i-cells.true)))
-        | then-i-cells-via-else-i-cells+then-not-is_dead w ↦ ends (dead_read cs (s + i) _ w.is_dead.result false (omega (arith, w.if-i-cells.false)) w.is_dead.ensures w.if-not-is_dead.true)
+        | then-i-cells-via-else-i-cells+then-ne w ↦ ends (dead_read cs (s + i) _ w.ne.result true (omega (arith, w.if-i-cells.false)) w.ne.ensures w.if-ne.true)
       ],
     )
 
@@ -27,7 +27,7 @@ row-preserved c =
     let s = c.starts.start in
     let i = c.row.i in (
       omega arith,
-      c.row.invariant.1 ∙ row_more cs s i c.args.size c.row-test.true (dead_read cs (s + i) _ c.is_dead.result true (omega arith) c.is_dead.ensures c.if-not-is_dead.false),
+      c.row.invariant.1 ∙ row_more cs s i c.args.size c.row-test.true (dead_read cs (s + i) _ c.ne.result false (omega arith) c.ne.ensures c.if-ne.false),
     )
 
 pub returns-in-starts : goal.returns-in-starts
