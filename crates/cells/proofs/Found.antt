@@ -5,7 +5,7 @@ use Rattle.std.proofs.lemmas.Bool.{and_parts, and_from, both_ways, cases_lt}
 use Rattle.value.specs.declared.kinds.Kind.TheVariants.{Char}
 use Rattle.cells.specs.Fits.{is_dead, dead_at, row, first_from, first_row}
 use Rattle.cells.specs.Laws.{DeadRow, Lowest}
-use Rattle.cells.specs.Rows.{painted}
+use Rattle.cells.specs.Rows.{row_put}
 use Rattle.cells.specs.declared.cell.Cell.{Cell}
 use Rattle.cells.specs.declared.cell.Cell.TheVariants as cell
 
@@ -84,22 +84,22 @@ unfolding first_row
 first_lowest cs n some = lowest_of cs n (first_from cs n 0 (length cs)) some (lowest_from cs n 0 (length cs) (omega arith))
 
 -- a row put over another of the same length, and one of dead cells over dead cells
-set-painted : (cs : List Cell) (i j : ℕ) (y : Cell) (row : List Cell) → j < i → set (painted cs i row) j y ≡ painted (set cs j y) i row
-set-painted cs i j y [] h = refl
-set-painted cs i j y (x ∷ xs) h = set-painted (set cs i x) (i + 1) j y xs (omega arith) ∙ ap (λ l. painted l (i + 1) xs) (set_comm cs i j x y (λ e. omega arith))
+set-row_put : (cs : List Cell) (i j : ℕ) (y : Cell) (row : List Cell) → j < i → set (row_put cs i row) j y ≡ row_put (set cs j y) i row
+set-row_put cs i j y [] h = refl
+set-row_put cs i j y (x ∷ xs) h = set-row_put (set cs i x) (i + 1) j y xs (omega arith) ∙ ap (λ l. row_put l (i + 1) xs) (set_comm cs i j x y (λ e. omega arith))
 
-pub painted_over : (cs : List Cell) (i : ℕ) (xs ys : List Cell) → length xs ≡ length ys → painted (painted cs i xs) i ys ≡ painted cs i ys
-painted_over cs i [] [] l = refl
-painted_over cs i [] (y ∷ ys) l = absurd (omega arith)
-painted_over cs i (x ∷ xs) [] l = absurd (omega arith)
-painted_over cs i (x ∷ xs) (y ∷ ys) l =
-    ap (λ t. painted t (i + 1) ys) (set-painted (set cs i x) (i + 1) i y xs (omega arith) ∙ ap (λ t. painted t (i + 1) xs) (set-set cs i x y))
-    ∙ painted_over (set cs i y) (i + 1) xs ys (omega arith)
+pub row_put_over : (cs : List Cell) (i : ℕ) (xs ys : List Cell) → length xs ≡ length ys → row_put (row_put cs i xs) i ys ≡ row_put cs i ys
+row_put_over cs i [] [] l = refl
+row_put_over cs i [] (y ∷ ys) l = absurd (omega arith)
+row_put_over cs i (x ∷ xs) [] l = absurd (omega arith)
+row_put_over cs i (x ∷ xs) (y ∷ ys) l =
+    ap (λ t. row_put t (i + 1) ys) (set-row_put (set cs i x) (i + 1) i y xs (omega arith) ∙ ap (λ t. row_put t (i + 1) xs) (set-set cs i x y))
+    ∙ row_put_over (set cs i y) (i + 1) xs ys (omega arith)
 
-pub dead_over : (cs : List Cell) (i n : ℕ) → ((k : ℕ) → k < n → get_or cs (i + k) cell.Dead ≡ cell.Dead) → painted cs i (replicate n cell.Dead) ≡ cs
+pub dead_over : (cs : List Cell) (i n : ℕ) → ((k : ℕ) → k < n → get_or cs (i + k) cell.Dead ≡ cell.Dead) → row_put cs i (replicate n cell.Dead) ≡ cs
 dead_over cs i zero d = refl
 dead_over cs i (suc n) d =
     let z : i + 0 ≡ i = omega arith in
     let here : set cs i cell.Dead ≡ cs = ap (set cs i) (sym (ap (λ j. get_or cs j cell.Dead) (sym z) ∙ d 0 (omega arith))) ∙ set-get_or cs i cell.Dead in
-    ap (λ l. painted l (i + 1) (replicate n cell.Dead)) here
+    ap (λ l. row_put l (i + 1) (replicate n cell.Dead)) here
     ∙ dead_over cs (i + 1) n (λ k h. let e : i + 1 + k ≡ i + suc k = omega arith in ap (λ j. get_or cs j cell.Dead) e ∙ d (suc k) (omega arith))

@@ -10,19 +10,19 @@ use Rattle.cells.specs.Cells.{at, as_kind, cell_at, cell_of, index_of, is_kind, 
 use Rattle.cells.specs.Fits.{first_row}
 use Rattle.cells.specs.Laws.{KeepsKinds, KeepsFirst, LeavesHeap, LeavesVariables}
 use Rattle.cells.specs.Layouts.{fresh}
-use Rattle.cells.specs.Memory.{Memory, After, above, block_at, deleted, deleted_at, drop_block, given_up, laid, laid_as, laid_value, newed, place, written}
-use Rattle.cells.specs.Rows.{painted}
+use Rattle.cells.specs.Memory.{Memory, After, above, block_at, deleted, deleted_at, drop_block, given_up, laid, laid_as, laid_value, new_block, place, written}
+use Rattle.cells.specs.Rows.{row_put}
 use Rattle.cells.specs.declared.cell.Cell.{Cell}
 use Rattle.cells.specs.declared.cell.Cell.TheVariants as cell
 
 -- a row leaves what lies below and above it
-pub take-painted : (n : ℕ) (cs : List Cell) (i : ℕ) (row : List Cell) → n ≤ i → take n (painted cs i row) ≡ take n cs
-take-painted n cs i [] h = refl
-take-painted n cs i (x ∷ xs) h = take-painted n (set cs i x) (i + 1) xs (omega arith) ∙ take-set-le n cs i x h
+pub take-row_put : (n : ℕ) (cs : List Cell) (i : ℕ) (row : List Cell) → n ≤ i → take n (row_put cs i row) ≡ take n cs
+take-row_put n cs i [] h = refl
+take-row_put n cs i (x ∷ xs) h = take-row_put n (set cs i x) (i + 1) xs (omega arith) ∙ take-set-le n cs i x h
 
-pub drop-painted : (n : ℕ) (cs : List Cell) (i : ℕ) (row : List Cell) → i + length row ≤ n → drop n (painted cs i row) ≡ drop n cs
-drop-painted n cs i [] h = refl
-drop-painted n cs i (x ∷ xs) h = drop-painted n (set cs i x) (i + 1) xs (omega arith) ∙ drop-set-lt n cs i x (omega arith)
+pub drop-row_put : (n : ℕ) (cs : List Cell) (i : ℕ) (row : List Cell) → i + length row ≤ n → drop n (row_put cs i row) ≡ drop n cs
+drop-row_put n cs i [] h = refl
+drop-row_put n cs i (x ∷ xs) h = drop-row_put n (set cs i x) (i + 1) xs (omega arith) ∙ drop-set-lt n cs i x (omega arith)
 
 -- laying
 pub record Above (m m' : Memory) : Type 0 where
@@ -32,7 +32,7 @@ pub record Above (m m' : Memory) : Type 0 where
 above_keeps : (row : List Cell) (m : Memory) → Above m (above row m).1
 above_keeps row m =
     cond_both (leb (m.used + length row) 1024) _ _ (λ (p : After ℤ). Above m p.1)
-    (λ e. record { heap = drop-painted 1024 m.cells m.used row (leb-true _ _ e); first = take-painted m.used m.cells m.used row (omega arith) })
+    (λ e. record { heap = drop-row_put 1024 m.cells m.used row (leb-true _ _ e); first = take-row_put m.used m.cells m.used row (omega arith) })
     (λ e. record { heap = refl; first = refl })
 
 pub laid_keeps : (ks : List Kind) (m : Memory) → Above m (laid ks m).1
@@ -48,28 +48,28 @@ laid_value_keeps v m = laid_as_keeps (kind_of v) v m
 pub given_up_heap : (mark : ℕ) (m : Memory) → m.used ≤ 1024 → LeavesHeap m (given_up mark m)
 given_up_heap mark m few =
     ⊎_elim
-    (λ less. drop-painted 1024 m.cells mark (replicate (m.used - mark) cell.Dead) (omega (arith, length-replicate (m.used - mark) cell.Dead)))
-    (λ more. let none : m.used - mark ≡ 0 = omega arith in ap (λ n. drop 1024 (painted m.cells mark (replicate n cell.Dead))) none)
+    (λ less. drop-row_put 1024 m.cells mark (replicate (m.used - mark) cell.Dead) (omega (arith, length-replicate (m.used - mark) cell.Dead)))
+    (λ more. let none : m.used - mark ≡ 0 = omega arith in ap (λ n. drop 1024 (row_put m.cells mark (replicate n cell.Dead))) none)
     (cases_lt mark m.used)
 
 pub given_up_first : (mark : ℕ) (m : Memory) → KeepsFirst mark m (given_up mark m)
-given_up_first mark m = take-painted mark m.cells mark (replicate (m.used - mark) cell.Dead) (omega arith)
+given_up_first mark m = take-row_put mark m.cells mark (replicate (m.used - mark) cell.Dead) (omega arith)
 
 -- `new` and `del`
 block_keeps : (o : Option ℕ) (ks : List Kind) (m : Memory) → LeavesVariables m (block_at o ks m).1
 block_keeps None ks m = (refl, refl)
-block_keeps (Some i) ks m = (take-painted 1024 m.cells (1024 + i) (fresh ks) (omega arith), refl)
+block_keeps (Some i) ks m = (take-row_put 1024 m.cells (1024 + i) (fresh ks) (omega arith), refl)
 
-pub newed_keeps : (ks : List Kind) (m : Memory) → LeavesVariables m (newed ks m).1
-newed_keeps ks m = cond_both (leb (length ks) 1024) _ _ (λ (p : After ℤ). LeavesVariables m p.1) (λ e. block_keeps (first_row (drop 1024 m.cells) (length ks)) ks m) (λ e. (refl, refl))
+pub new_block_keeps : (ks : List Kind) (m : Memory) → LeavesVariables m (new_block ks m).1
+new_block_keeps ks m = cond_both (leb (length ks) 1024) _ _ (λ (p : After ℤ). LeavesVariables m p.1) (λ e. block_keeps (first_row (drop 1024 m.cells) (length ks)) ks m) (λ e. (refl, refl))
 
-drop_keeps : (i n : ℕ) (m : Memory) → LeavesVariables m (drop_block i n m).1
-drop_keeps i zero m = (refl, refl)
-drop_keeps i (suc n) m = (take-painted 1024 m.cells (1024 + i) (replicate (suc n) cell.Dead) (omega arith), refl)
+drop_keeps : (i : ℕ) (o : Option ℕ) (m : Memory) → LeavesVariables m (drop_block i o m).1
+drop_keeps i None m = (refl, refl)
+drop_keeps i (Some n) m = (take-row_put 1024 m.cells (1024 + i) (replicate n cell.Dead) (omega arith), refl)
 
 deleted_at_keeps : (o : Option ℕ) (m : Memory) → LeavesVariables m (deleted_at o m).1
 deleted_at_keeps None m = (refl, refl)
-deleted_at_keeps (Some j) m = cond_both (leb 1024 j) _ _ (λ (p : After Unit). LeavesVariables m p.1) (λ e. drop_keeps (j - 1024) (get_or m.blocks (j - 1024) 0) m) (λ e. (refl, refl))
+deleted_at_keeps (Some j) m = cond_both (leb 1024 j) _ _ (λ (p : After Unit). LeavesVariables m p.1) (λ e. drop_keeps (j - 1024) (get_or m.blocks (j - 1024) None) m) (λ e. (refl, refl))
 
 pub deleted_keeps : (a : ℤ) (m : Memory) → LeavesVariables m (deleted a m).1
 deleted_keeps a m = deleted_at_keeps (index_of a) m

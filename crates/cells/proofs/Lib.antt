@@ -1,5 +1,5 @@
 pub mod Places
-pub mod Painted
+pub mod Rows
 pub mod Stored
 pub mod Kept
 pub mod Found

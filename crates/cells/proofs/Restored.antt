@@ -1,5 +1,5 @@
 -- `new` finds the lowest row, and `del` undoes it. Assumes nothing.
-use Rattle.std.proofs.Common.{◌≡◌, ℕ, zero, suc, ◌+◌, ◌-◌, ◌<◌, ◌≤◌, false, leb, List, length, get_or, drop, set, replicate, ℤ, pos, Some, None, Option, sym, refl, ap, ◌∙◌, arith}
+use Rattle.std.proofs.Common.{◌≡◌, ℕ, suc, ◌+◌, ◌-◌, ◌<◌, ◌≤◌, false, leb, List, length, get_or, drop, set, replicate, ℤ, pos, Some, None, Option, sym, refl, ap, ◌∙◌, arith}
 use Rattle.std.proofs.lemmas.List.{get_or-drop, get_or-set_same, length-drop, length-replicate}
 use Rattle.std.proofs.lemmas.Bool.{cond_both, cond-true, leb-false, le-leb, lt-ltb}
 use Rattle.value.specs.declared.kinds.Kind.{Kind}
@@ -7,10 +7,10 @@ use Rattle.cells.specs.Cells.{index_of}
 use Rattle.cells.specs.Fits.{first_row}
 use Rattle.cells.specs.Laws.{DeadRow, Finds, Lowest, Restores}
 use Rattle.cells.specs.Layouts.{fresh}
-use Rattle.cells.specs.Memory.{Memory, After, block_at, deleted, deleted_at, drop_block, newed}
-use Rattle.cells.specs.Rows.{painted}
+use Rattle.cells.specs.Memory.{Memory, After, block_at, deleted, deleted_at, drop_block, new_block}
+use Rattle.cells.specs.Rows.{row_put}
 use Rattle.cells.specs.declared.cell.Cell.TheVariants.{Dead}
-use Rattle.cells.proofs.Found.{dead_over, first_lowest, painted_over}
+use Rattle.cells.proofs.Found.{dead_over, first_lowest, row_put_over}
 use Rattle.cells.proofs.Stored.{length-fresh}
 
 index_block : (i : ℕ) → i < 1024 → index_of (pos (1025 + i)) ≡ Some (1024 + i)
@@ -29,43 +29,36 @@ module _ (ks : List Kind) (m : Memory) (some : 1 ≤ length ks) (long : length m
   too_long : leb (length ks) 1024 ≡ false → Lowest (drop 1024 m.cells) (length ks) None
   too_long e j r = let over = leb-false _ _ e in omega (arith, over, r.0, heap_long)
 
-  pub newed_finds : Finds (drop 1024 m.cells) (length ks) (newed ks m).0
-  newed_finds =
+  pub new_block_finds : Finds (drop 1024 m.cells) (length ks) (new_block ks m).0
+  new_block_finds =
       cond_both (leb (length ks) 1024) _ _ (λ (p : After ℤ). Finds (drop 1024 m.cells) (length ks) p.0)
       (λ e. finds_by (first_row (drop 1024 m.cells) (length ks)) (first_lowest (drop 1024 m.cells) (length ks) some))
       too_long
 
   -- the block that begins at place i dies
-  block_dies : (i n : ℕ) (m' : Memory) → i < 1024 → get_or m'.blocks i 0 ≡ suc n → deleted (pos (1025 + i)) m' ≡ drop_block i (suc n) m'
+  block_dies : (i n : ℕ) (m' : Memory) → i < 1024 → get_or m'.blocks i None ≡ Some n → deleted (pos (1025 + i)) m' ≡ drop_block i (Some n) m'
   block_dies i n m' h size =
       let back : 1024 + i - 1024 ≡ i = omega arith in
       ap (λ o. deleted_at o m') (index_block i h)
       ∙ cond-true _ _ _ (le-leb 1024 (1024 + i) (omega arith))
-      ∙ ap (λ j. drop_block j (get_or m'.blocks j 0) m') back
+      ∙ ap (λ j. drop_block j (get_or m'.blocks j None) m') back
       ∙ ap (λ s. drop_block i s m') size
 
-  cells_back : (i n : ℕ) → length ks ≡ suc n → DeadRow (drop 1024 m.cells) i (length ks) → painted (painted m.cells (1024 + i) (fresh ks)) (1024 + i) (replicate (suc n) Dead) ≡ m.cells
-  cells_back i n size r =
-      painted_over m.cells (1024 + i) (fresh ks) (replicate (suc n) Dead) (length-fresh ks ∙ size ∙ sym (length-replicate (suc n) Dead))
-      ∙ dead_over m.cells (1024 + i) (suc n)
-      (λ k h. let e : 1024 + i + k ≡ 1024 + (i + k) = omega arith in ap (λ j. get_or m.cells j Dead) e ∙ sym (get_or-drop 1024 m.cells (i + k) Dead) ∙ r.1 k (omega arith))
-
-  restores_at : (i n : ℕ) → length ks ≡ suc n → DeadRow (drop 1024 m.cells) i (length ks) → Restores m (block_at (Some i) ks m).0 (block_at (Some i) ks m).1
-  restores_at i n size r =
-      let low : i < 1024 = omega (arith, r.0, heap_long) in
-      let held : get_or (set m.blocks i (length ks)) i 0 ≡ suc n = get_or-set_same m.blocks i (length ks) 0 (omega arith) ∙ size in
-      ap (λ p. p.1.cells) (block_dies i n (block_at (Some i) ks m).1 low held) ∙ cells_back i n size r
-
-  pred_of : (n : ℕ) → 1 ≤ n → (p : ℕ) × (n ≡ suc p)
-  pred_of zero h = absurd (omega arith)
-  pred_of (suc n) h = (n, refl)
+  cells_back : (i : ℕ) → DeadRow (drop 1024 m.cells) i (length ks) → row_put (row_put m.cells (1024 + i) (fresh ks)) (1024 + i) (replicate (length ks) Dead) ≡ m.cells
+  cells_back i r =
+      row_put_over m.cells (1024 + i) (fresh ks) (replicate (length ks) Dead) (length-fresh ks ∙ sym (length-replicate (length ks) Dead))
+      ∙ dead_over m.cells (1024 + i) (length ks)
+      (λ k h. let e : 1024 + i + k ≡ 1024 + (i + k) = omega arith in ap (λ j. get_or m.cells j Dead) e ∙ sym (get_or-drop 1024 m.cells (i + k) Dead) ∙ r.1 k h)
 
   restores_by : (o : Option ℕ) → Lowest (drop 1024 m.cells) (length ks) o → Restores m (block_at o ks m).0 (block_at o ks m).1
   restores_by None l = refl
-  restores_by (Some i) l = let p = pred_of (length ks) some in restores_at i p.0 p.1 l.0
+  restores_by (Some i) l =
+      let low : i < 1024 = omega (arith, l.0.0, heap_long) in
+      let held : get_or (set m.blocks i (Some (length ks))) i None ≡ Some (length ks) = get_or-set_same m.blocks i (Some (length ks)) None (omega arith) in
+      ap (λ p. p.1.cells) (block_dies i (length ks) (block_at (Some i) ks m).1 low held) ∙ cells_back i l.0
 
-  pub newed_restores : Restores m (newed ks m).0 (newed ks m).1
-  newed_restores =
+  pub new_block_restores : Restores m (new_block ks m).0 (new_block ks m).1
+  new_block_restores =
       cond_both (leb (length ks) 1024) _ _ (λ (p : After ℤ). Restores m p.0 p.1)
       (λ e. restores_by (first_row (drop 1024 m.cells) (length ks)) (first_lowest (drop 1024 m.cells) (length ks) some))
       (λ e. refl)

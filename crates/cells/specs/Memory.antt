@@ -1,5 +1,5 @@
 -- The memory of a run: cells, how many of them variables use, and the blocks of `new`. Assumes nothing.
-use Rattle.std.specs.Prelude.{ℕ, zero, suc, ◌+◌, ◌-◌, min, cond, List, [], ◌∷◌, length, drop, replicate, ℤ, pos, Some, None, Ok, Err, Option, Result, nat_le, slice_index, slice_set}
+use Rattle.std.specs.Prelude.{ℕ, ◌+◌, ◌-◌, min, cond, List, [], ◌∷◌, length, drop, replicate, ℤ, pos, Some, None, Ok, Err, Option, Result, nat_le, slice_index_or, slice_set}
 use Rattle.reason.specs.declared.faults.RunFault.TheVariants as runfault
 use Rattle.value.specs.Values.{kind_of}
 use Rattle.value.specs.declared.kinds.Kind.{Kind}
@@ -9,19 +9,19 @@ use Rattle.value.specs.declared.values.Value.{Value}
 use Rattle.cells.specs.Cells.{index_of, cell_at, cell_of, written_by}
 use Rattle.cells.specs.Fits.{first_row}
 use Rattle.cells.specs.Layouts.{fresh}
-use Rattle.cells.specs.Rows.{painted}
+use Rattle.cells.specs.Rows.{row_put}
 use Rattle.cells.specs.declared.cell.Cell.{Cell}
 use Rattle.cells.specs.declared.cell.Cell.TheVariants.{Dead}
 
 pub record Memory : Type 0 where
   pub cells : List Cell
   pub used : ℕ
-  -- at i the size of the block that begins at cell 1,025 + i, or 0
-  pub blocks : List ℕ
+  -- at i the size of the block that begins at cell 1,025 + i, where one does
+  pub blocks : List (Option ℕ)
 
 -- every cell is dead
 abbrev pub empty : Memory
-empty = record { cells = replicate 2048 Dead; used = 0; blocks = replicate 1024 0 }
+empty = record { cells = replicate 2048 Dead; used = 0; blocks = replicate 1024 None }
 
 abbrev pub with_cells : Memory → List Cell → Memory
 with_cells m cs = record { cells = cs; used = m.used; blocks = m.blocks }
@@ -47,7 +47,7 @@ written a v m = place (index_of a) (written_by v (cell_at m.cells a)) m
 abbrev pub above : List Cell → Memory → After ℤ
 above row m =
     cond (nat_le (m.used + length row) 1024)
-    (Ok (pos (m.used + 1)), record { cells = painted m.cells m.used row; used = m.used + length row; blocks = m.blocks })
+    (Ok (pos (m.used + 1)), record { cells = row_put m.cells m.used row; used = m.used + length row; blocks = m.blocks })
     (refuses (Fault runfault.StackFull) m)
 
 abbrev pub laid : List Kind → Memory → After ℤ
@@ -63,24 +63,24 @@ laid_value v m = laid_as (kind_of v) v m
 
 -- everything above a mark dies
 abbrev pub given_up : ℕ → Memory → Memory
-given_up mark m = record { cells = painted m.cells mark (replicate (m.used - mark) Dead); used = min mark m.used; blocks = m.blocks }
+given_up mark m = record { cells = row_put m.cells mark (replicate (m.used - mark) Dead); used = min mark m.used; blocks = m.blocks }
 
 -- a block of `new` in the lowest row that is long enough
 abbrev pub block_at : Option ℕ → List Kind → Memory → After ℤ
 block_at None ks m = refuses (Fault runfault.HeapFull) m
-block_at (Some i) ks m = (Ok (pos (1025 + i)), record { cells = painted m.cells (1024 + i) (fresh ks); used = m.used; blocks = slice_set m.blocks i (length ks) })
+block_at (Some i) ks m = (Ok (pos (1025 + i)), record { cells = row_put m.cells (1024 + i) (fresh ks); used = m.used; blocks = slice_set m.blocks i (Some (length ks)) })
 
-abbrev pub newed : List Kind → Memory → After ℤ
-newed ks m = cond (nat_le (length ks) 1024) (block_at (first_row (drop 1024 m.cells) (length ks)) ks m) (refuses (Fault runfault.HeapFull) m)
+abbrev pub new_block : List Kind → Memory → After ℤ
+new_block ks m = cond (nat_le (length ks) 1024) (block_at (first_row (drop 1024 m.cells) (length ks)) ks m) (refuses (Fault runfault.HeapFull) m)
 
 -- the block that begins at a place dies
-abbrev pub drop_block : ℕ → ℕ → Memory → After Unit
-drop_block i zero m = refuses (Fault runfault.NotABlock) m
-drop_block i (suc n) m = (Ok tt, record { cells = painted m.cells (1024 + i) (replicate (suc n) Dead); used = m.used; blocks = slice_set m.blocks i 0 })
+abbrev pub drop_block : ℕ → Option ℕ → Memory → After Unit
+drop_block i None m = refuses (Fault runfault.NotABlock) m
+drop_block i (Some n) m = (Ok tt, record { cells = row_put m.cells (1024 + i) (replicate n Dead); used = m.used; blocks = slice_set m.blocks i None })
 
 abbrev pub deleted_at : Option ℕ → Memory → After Unit
 deleted_at None m = refuses (Fault runfault.NotABlock) m
-deleted_at (Some j) m = cond (nat_le 1024 j) (drop_block (j - 1024) (slice_index m.blocks (j - 1024)) m) (refuses (Fault runfault.NotABlock) m)
+deleted_at (Some j) m = cond (nat_le 1024 j) (drop_block (j - 1024) (slice_index_or m.blocks (j - 1024) None) m) (refuses (Fault runfault.NotABlock) m)
 
 abbrev pub deleted : ℤ → Memory → After Unit
 deleted a m = deleted_at (index_of a) m

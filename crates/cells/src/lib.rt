@@ -6,5 +6,5 @@ pub mod findings;
 mod fits;
 pub mod layouts;
 pub mod requests;
-mod rows;
 pub mod stores;
+mod tables;

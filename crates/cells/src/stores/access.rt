@@ -6,7 +6,7 @@ ghost use Rattle.cells.specs.Views.{memory};
 
 use super::Store;
 use crate::cell::{Cell, index_of};
-use crate::rows::put;
+use crate::tables::Table;
 use std::alloc::{AllocError, Global};
 use value::kinds::Kind;
 use value::values::{Stop, Value};
@@ -16,10 +16,10 @@ impl Store {
     pub fn new(heap: Global) -> Result<Store, AllocError>
         ensures { IfOk result (λ s. memory s ≡ empty) }
     {
-        let cells = vec![in heap; Cell::Dead; 2048]?;
-        let blocks = vec![in heap; 0; 1024]?;
+        let table = Table::new(heap)?;
+        let blocks = vec![in heap; None; 1024]?;
         Ok(Store {
-            cells,
+            table,
             used: 0,
             blocks,
         })
@@ -29,16 +29,7 @@ impl Store {
     fn cell(&self, address: i64) -> Cell
         ensures { result ≡ cell_at (memory self.now).cells address }
     {
-        match index_of(address) {
-            Some(i) => {
-                if i < self.cells.len() {
-                    self.cells[i]
-                } else {
-                    Cell::Dead
-                }
-            }
-            None => Cell::Dead,
-        }
+        index_of(address).map_or(Cell::Dead, |place| self.table.cell(place))
     }
 
     // The value of a kind in the cell at an address: fault 32 where it is absent, dead or of another kind, then 33 where it is
@@ -54,8 +45,8 @@ impl Store {
         ensures after { memory self.new ≡ (written address value (memory self.old)).1 }
     {
         let cell = self.cell(address).written(value)?;
-        if let Some(i) = index_of(address) {
-            put(&mut self.cells, i, cell);
+        if let Some(place) = index_of(address) {
+            self.table.put(place, cell);
         }
         Ok(())
     }

@@ -1,32 +1,28 @@
 ghost use Rattle.std.specs.Prelude.{◌≡◌, ◌≤◌, length, drop};
 ghost use Rattle.cells.specs.Laws.{Finds, LeavesVariables, Restores};
-ghost use Rattle.cells.specs.Memory.{deleted, newed};
+ghost use Rattle.cells.specs.Memory.{deleted, new_block};
 ghost use Rattle.cells.specs.Views.{memory};
 
 use super::Store;
 use crate::cell::index_of;
 use crate::fits::first_fit;
 use crate::layouts::Layout;
-use crate::rows::{enliven, kill};
 use reason::faults::RunFault;
 use value::values::Stop;
 
 impl Store {
     fn take_block<L: Layout>(&mut self, layout: &L) -> Result<i64, Stop>
-        ensures result { result ≡ (newed (L.kinds layout.now) (memory self.old)).0 }
-        ensures after { memory self.new ≡ (newed (L.kinds layout.now) (memory self.old)).1 }
+        ensures result { result ≡ (new_block (L.kinds layout.now) (memory self.old)).0 }
+        ensures after { memory self.new ≡ (new_block (L.kinds layout.now) (memory self.old)).1 }
         ensures some { 1 ≤ length (L.kinds layout.now) }
     {
         let size = layout.size();
         if size > 1024 {
-            return Err(Stop::Fault(RunFault::HeapFull));
+            return Err(RunFault::HeapFull.into());
         }
-        let table = self.cells.as_slice();
-        let Some(i) = first_fit(&table[1024..2048], size) else {
-            return Err(Stop::Fault(RunFault::HeapFull));
-        };
-        enliven(&mut self.cells, 1024 + i, layout);
-        self.blocks[i] = size as u16;
+        let i = first_fit(self.table.heap(), size).ok_or(RunFault::HeapFull)?;
+        self.table.revive(1024 + i, layout);
+        self.blocks[i] = Some(size as u16);
         Ok((1025 + i) as i64)
     }
 
@@ -34,26 +30,17 @@ impl Store {
         ensures result { result ≡ (deleted address (memory self.old)).0 }
         ensures after { memory self.new ≡ (deleted address (memory self.old)).1 }
     {
-        let Some(j) = index_of(address) else {
-            return Err(Stop::Fault(RunFault::NotABlock));
-        };
-        if j < 1024 {
-            return Err(Stop::Fault(RunFault::NotABlock));
-        }
-        let i = j - 1024;
-        let size = self.blocks[i];
-        if size == 0 {
-            return Err(Stop::Fault(RunFault::NotABlock));
-        }
-        kill(&mut self.cells, 1024 + i, size as usize);
-        self.blocks[i] = 0;
+        let place = index_of(address).ok_or(RunFault::NotABlock)?;
+        let i = place.checked_sub(1024).ok_or(RunFault::NotABlock)?;
+        let size = self.blocks[i].take().ok_or(RunFault::NotABlock)?;
+        self.table.clear(place, usize::from(size));
         Ok(())
     }
 
     // A block of `new`, in the lowest row of dead cells that is long enough; its first cell is told. Fault 34 where there is none.
     pub fn new_block<L: Layout>(&mut self, layout: &L) -> Result<i64, Stop>
-        ensures result { result ≡ (newed (L.kinds layout.now) (memory self.old)).0 }
-        ensures after { memory self.new ≡ (newed (L.kinds layout.now) (memory self.old)).1 }
+        ensures result { result ≡ (new_block (L.kinds layout.now) (memory self.old)).0 }
+        ensures after { memory self.new ≡ (new_block (L.kinds layout.now) (memory self.old)).1 }
         ensures lowest { Finds (drop 1024 (memory self.old).cells) (length (L.kinds layout.now)) result }
         ensures undone { Restores (memory self.old) result (memory self.new) }
         ensures variables { LeavesVariables (memory self.old) (memory self.new) }

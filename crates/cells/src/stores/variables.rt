@@ -6,7 +6,6 @@ ghost use Rattle.cells.specs.Views.{memory};
 use super::Store;
 use crate::cell::Cell;
 use crate::layouts::Layout;
-use crate::rows::{enliven, kill, put};
 use reason::faults::RunFault;
 use value::values::{Stop, Value};
 
@@ -25,9 +24,9 @@ impl Store {
         let size = layout.size();
         let used = self.used;
         if size > 1024 - used {
-            return Err(Stop::Fault(RunFault::StackFull));
+            return Err(RunFault::StackFull.into());
         }
-        enliven(&mut self.cells, used, layout);
+        self.table.revive(used, layout);
         self.used = used + size;
         Ok((used + 1) as i64)
     }
@@ -41,9 +40,9 @@ impl Store {
             return Err(Stop::Misfit);
         }
         if used > 1023 {
-            return Err(Stop::Fault(RunFault::StackFull));
+            return Err(RunFault::StackFull.into());
         }
-        put(&mut self.cells, used, Cell::from(value));
+        self.table.put(used, Cell::from(value));
         self.used = used + 1;
         Ok((used + 1) as i64)
     }
@@ -53,7 +52,7 @@ impl Store {
     {
         let used = self.used;
         if mark < used {
-            kill(&mut self.cells, mark, used - mark);
+            self.table.clear(mark, used - mark);
             self.used = mark;
         }
     }

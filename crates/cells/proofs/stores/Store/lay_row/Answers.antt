@@ -1,4 +1,4 @@
-use Rattle.std.proofs.Common.{◌≡◌, ◌+◌, ◌<◌, ◌≤◌, length, pos, Ok, sym, ap, ◌∙◌, arith, w64, to_z}
+use Rattle.std.proofs.Common.{◌≡◌, ◌+◌, ◌<◌, ◌≤◌, length, pos, Ok, Err, sym, ap, ◌∙◌, arith, w64, to_z}
 use Rattle.std.proofs.lemmas.Int.{to_z_pos}
 use Rattle.cells.specs.Layouts.{fresh}
 use Rattle.cells.specs.Views.{memory}
@@ -11,7 +11,7 @@ returns-then-size-used g c =
     let ks = g.L.Layout.kinds c.args.layout.now in
     let over : 1024 < s.used + length ks = omega arith in
     let e = laid_full ks (memory s) over in
-    record { result = sym (ap (λ p. p.0) e); after = sym (ap (λ p. p.1) e) }
+    record { result = ap Err c.into.ensures ∙ sym (ap (λ p. p.0) e); after = sym (ap (λ p. p.1) e) }
 
 pub returns : goal.returns
 returns g c =
@@ -23,5 +23,5 @@ returns g c =
     let size : s.used + c.size-size.result ≡ s.used + length (fresh ks) = omega (arith, length-fresh ks) in
     record {
       result = ap Ok address ∙ sym (ap (λ p. p.0) e);
-      after = (λ t. record { cells = c.enliven.ensures.items t; used = size t; blocks = (memory s).blocks }) ∙ sym (ap (λ p. p.1) e);
+      after = (λ t. record { cells = c.revive.ensures t; used = size t; blocks = (memory s).blocks }) ∙ sym (ap (λ p. p.1) e);
     }

@@ -3,7 +3,7 @@ use Rattle.std.proofs.Common.{◌≡◌, ℕ, zero, suc, ◌+◌, ◌-◌, ◌<�
 use Rattle.std.proofs.lemmas.List.{drop_all}
 use Rattle.value.specs.declared.kinds.Kind.{Kind}
 use Rattle.cells.specs.Layouts.{kind_at, fresh}
-use Rattle.cells.specs.Rows.{painted}
+use Rattle.cells.specs.Rows.{row_put}
 use Rattle.cells.specs.declared.cell.Cell.{Cell}
 use Rattle.cells.specs.declared.cell.Cell.TheVariants.{Dead, Unwritten}
 
@@ -21,21 +21,21 @@ kind_there (x ∷ xs) zero h e = let z : ◌≡◌ {A = ℕ} 0 1 = cc in absurd 
 kind_there (x ∷ xs) (suc i) h e = kind_there xs i (omega arith) e
 
 -- one cell more comes to life
-pub enliven_more : (cs cs' : List Cell) (at i : ℕ) (ks : List Kind) (k : Kind) → Some k ≡ kind_at ks i → cs' ≡ set cs (at + i) (Unwritten k) →
-    painted cs' (at + (i + 1)) (fresh (drop (i + 1) ks)) ≡ painted cs (at + i) (fresh (drop i ks))
-enliven_more cs cs' at i ks k e p =
+pub revive_more : (cs cs' : List Cell) (at i : ℕ) (ks : List Kind) (k : Kind) → Some k ≡ kind_at ks i → cs' ≡ set cs (at + i) (Unwritten k) →
+    row_put cs' (at + (i + 1)) (fresh (drop (i + 1) ks)) ≡ row_put cs (at + i) (fresh (drop i ks))
+revive_more cs cs' at i ks k e p =
     let n : at + (i + 1) ≡ at + i + 1 = omega arith in
-    (λ t. painted (p t) (n t) (fresh (drop (i + 1) ks))) ∙ sym (ap (λ l. painted cs (at + i) (fresh l)) (kind_first ks i k e))
+    (λ t. row_put (p t) (n t) (fresh (drop (i + 1) ks))) ∙ sym (ap (λ l. row_put cs (at + i) (fresh l)) (kind_first ks i k e))
 
-pub enliven_end : (cs : List Cell) (at i : ℕ) (ks : List Kind) → length ks ≤ i → painted cs (at + i) (fresh (drop i ks)) ≡ cs
-enliven_end cs at i ks h = ap (λ l. painted cs (at + i) (fresh l)) (drop_all i ks h)
+pub revive_end : (cs : List Cell) (at i : ℕ) (ks : List Kind) → length ks ≤ i → row_put cs (at + i) (fresh (drop i ks)) ≡ cs
+revive_end cs at i ks h = ap (λ l. row_put cs (at + i) (fresh l)) (drop_all i ks h)
 
 -- one cell more dies
-pub kill_more : (cs cs' : List Cell) (at i n : ℕ) → i < n → cs' ≡ set cs (at + i) Dead → painted cs' (at + (i + 1)) (replicate (n - (i + 1)) Dead) ≡ painted cs (at + i) (replicate (n - i) Dead)
-kill_more cs cs' at i n h p =
+pub clear_more : (cs cs' : List Cell) (at i n : ℕ) → i < n → cs' ≡ set cs (at + i) Dead → row_put cs' (at + (i + 1)) (replicate (n - (i + 1)) Dead) ≡ row_put cs (at + i) (replicate (n - i) Dead)
+clear_more cs cs' at i n h p =
     let m : at + (i + 1) ≡ at + i + 1 = omega arith in
     let l : n - i ≡ suc (n - (i + 1)) = omega arith in
-    (λ t. painted (p t) (m t) (replicate (n - (i + 1)) Dead)) ∙ sym (ap (λ k. painted cs (at + i) (replicate k Dead)) l)
+    (λ t. row_put (p t) (m t) (replicate (n - (i + 1)) Dead)) ∙ sym (ap (λ k. row_put cs (at + i) (replicate k Dead)) l)
 
-pub kill_end : (cs : List Cell) (at i n : ℕ) → n ≤ i → painted cs (at + i) (replicate (n - i) Dead) ≡ cs
-kill_end cs at i n h = let l : n - i ≡ 0 = omega arith in ap (λ k. painted cs (at + i) (replicate k Dead)) l
+pub clear_end : (cs : List Cell) (at i n : ℕ) → n ≤ i → row_put cs (at + i) (replicate (n - i) Dead) ≡ cs
+clear_end cs at i n h = let l : n - i ≡ 0 = omega arith in ap (λ k. row_put cs (at + i) (replicate k Dead)) l
