@@ -79,9 +79,13 @@ lowest_of : (cs : List Cell) (n : ℕ) (o : Option ℕ) → 1 ≤ n → LowestFr
 lowest_of cs n (Some k) some l = (l.2, λ j high r. l.3 j (omega arith) high r)
 lowest_of cs n None some l = λ j r. l j (omega arith) (omega (arith, r.0)) r
 
-pub first_lowest : (cs : List Cell) (n : ℕ) → 1 ≤ n → Lowest cs n (first_row cs n)
+first_lowest : (cs : List Cell) (n : ℕ) → 1 ≤ n → Lowest cs n (first_row cs n)
 unfolding first_row
 first_lowest cs n some = lowest_of cs n (first_from cs n 0 (length cs)) some (lowest_from cs n 0 (length cs) (omega arith))
+
+-- the search over the cells of a part, where it gave o
+pub found_lowest : (cs part : List Cell) (n size : ℕ) (o : Option ℕ) → 1 ≤ n → part ≡ cs → size ≡ n → o ≡ first_row part size → Lowest cs n o
+found_lowest cs part n size o some p s e = let found : o ≡ first_row cs n = cc in subst (Lowest cs n) (sym found) (first_lowest cs n some)
 
 -- a row put over another of the same length, and one of dead cells over dead cells
 set-row_put : (cs : List Cell) (i j : ℕ) (y : Cell) (row : List Cell) → j < i → set (row_put cs i row) j y ≡ row_put (set cs j y) i row

@@ -1,15 +1,18 @@
 -- Rows of cells put into the table. Assumes nothing.
 use Rattle.std.proofs.Common.{◌≡◌, ℕ, zero, suc, ◌+◌, ◌-◌, ◌<◌, ◌≤◌, List, [], ◌∷◌, length, drop, set, replicate, Some, None, sym, ap, ◌∙◌, arith}
-use Rattle.std.proofs.lemmas.List.{drop_all}
+use Rattle.std.proofs.lemmas.List.{drop_all, length-map}
 use Rattle.value.specs.declared.kinds.Kind.{Kind}
 use Rattle.cells.specs.Layouts.{kind_at, fresh}
 use Rattle.cells.specs.Rows.{row_put}
 use Rattle.cells.specs.declared.cell.Cell.{Cell}
 use Rattle.cells.specs.declared.cell.Cell.TheVariants.{Dead, Unwritten}
 
+pub length-fresh : (ks : List Kind) → length (fresh ks) ≡ length ks
+length-fresh ks = length-map ks Unwritten
+
 -- the kind at i comes before the rest
 pub kind_first : (ks : List Kind) (i : ℕ) (k : Kind) → Some k ≡ kind_at ks i → drop i ks ≡ k ∷ drop (i + 1) ks
-kind_first [] i k e = let z : ◌≡◌ {A = ℕ} 0 1 = cc in absurd (omega arith)
+kind_first [] i k e = cc
 kind_first (x ∷ xs) zero k e = let same : x ≡ k = cc in ap (λ y. y ∷ xs) same
 kind_first (x ∷ xs) (suc i) k e =
     let n : suc (i + 1) ≡ suc i + 1 = omega arith in
@@ -17,7 +20,7 @@ kind_first (x ∷ xs) (suc i) k e =
 
 pub kind_there : (ks : List Kind) (i : ℕ) → i < length ks → None ≡ kind_at ks i → ⊥
 kind_there [] i h e = absurd (omega arith)
-kind_there (x ∷ xs) zero h e = let z : ◌≡◌ {A = ℕ} 0 1 = cc in absurd (omega arith)
+kind_there (x ∷ xs) zero h e = cc
 kind_there (x ∷ xs) (suc i) h e = kind_there xs i (omega arith) e
 
 -- one cell more comes to life

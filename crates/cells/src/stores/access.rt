@@ -40,23 +40,16 @@ impl Store {
         self.cell(address).read(kind)
     }
 
-    fn set_cell(&mut self, address: i64, value: Value) -> Result<(), Stop>
-        ensures result { result ≡ (written address value (memory self.old)).0 }
-        ensures after { memory self.new ≡ (written address value (memory self.old)).1 }
-    {
-        let cell = self.cell(address).written(value)?;
-        if let Some(place) = index_of(address) {
-            self.table.put(place, cell);
-        }
-        Ok(())
-    }
-
     // Writes a value to the cell at an address: fault 32 where it is absent, dead or of another kind.
     pub fn write(&mut self, address: i64, value: Value) -> Result<(), Stop>
         ensures result { result ≡ (written address value (memory self.old)).0 }
         ensures after { memory self.new ≡ (written address value (memory self.old)).1 }
         ensures kinds { KeepsKinds (memory self.old) (memory self.new) }
     {
-        self.set_cell(address, value)
+        let cell = self.cell(address).written(value)?;
+        if let Some(place) = index_of(address) {
+            self.table.put(place, cell);
+        }
+        Ok(())
     }
 }

@@ -11,10 +11,13 @@ use reason::faults::RunFault;
 use value::values::Stop;
 
 impl Store {
-    fn take_block<L: Layout>(&mut self, layout: &L) -> Result<i64, Stop>
+    // A block of `new`, in the lowest row of dead cells that is long enough; its first cell is told. Fault 34 where there is none.
+    pub fn new_block<L: Layout>(&mut self, layout: &L) -> Result<i64, Stop>
         ensures result { result ≡ (new_block (L.kinds layout.now) (memory self.old)).0 }
         ensures after { memory self.new ≡ (new_block (L.kinds layout.now) (memory self.old)).1 }
-        ensures some { 1 ≤ length (L.kinds layout.now) }
+        ensures lowest { Finds (drop 1024 (memory self.old).cells) (length (L.kinds layout.now)) result }
+        ensures undone { Restores (memory self.old) result (memory self.new) }
+        ensures variables { LeavesVariables (memory self.old) (memory self.new) }
     {
         let size = layout.size();
         if size > 1024 {
@@ -26,34 +29,16 @@ impl Store {
         Ok((1025 + i) as i64)
     }
 
-    fn drop_block(&mut self, address: i64) -> Result<(), Stop>
-        ensures result { result ≡ (deleted address (memory self.old)).0 }
-        ensures after { memory self.new ≡ (deleted address (memory self.old)).1 }
-    {
-        let place = index_of(address).ok_or(RunFault::NotABlock)?;
-        let i = place.checked_sub(1024).ok_or(RunFault::NotABlock)?;
-        let size = self.blocks[i].take().ok_or(RunFault::NotABlock)?;
-        self.table.clear(place, usize::from(size));
-        Ok(())
-    }
-
-    // A block of `new`, in the lowest row of dead cells that is long enough; its first cell is told. Fault 34 where there is none.
-    pub fn new_block<L: Layout>(&mut self, layout: &L) -> Result<i64, Stop>
-        ensures result { result ≡ (new_block (L.kinds layout.now) (memory self.old)).0 }
-        ensures after { memory self.new ≡ (new_block (L.kinds layout.now) (memory self.old)).1 }
-        ensures lowest { Finds (drop 1024 (memory self.old).cells) (length (L.kinds layout.now)) result }
-        ensures undone { Restores (memory self.old) result (memory self.new) }
-        ensures variables { LeavesVariables (memory self.old) (memory self.new) }
-    {
-        self.take_block(layout)
-    }
-
     // The block of `new` that begins at an address dies. Fault 36 where none does.
     pub fn delete(&mut self, address: i64) -> Result<(), Stop>
         ensures result { result ≡ (deleted address (memory self.old)).0 }
         ensures after { memory self.new ≡ (deleted address (memory self.old)).1 }
         ensures variables { LeavesVariables (memory self.old) (memory self.new) }
     {
-        self.drop_block(address)
+        let place = index_of(address).ok_or(RunFault::NotABlock)?;
+        let i = place.checked_sub(1024).ok_or(RunFault::NotABlock)?;
+        let size = self.blocks[i].take().ok_or(RunFault::NotABlock)?;
+        self.table.clear(place, usize::from(size));
+        Ok(())
     }
 }

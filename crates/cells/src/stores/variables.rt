@@ -17,9 +17,12 @@ impl Store {
         self.used
     }
 
-    fn lay_row<L: Layout>(&mut self, layout: &L) -> Result<i64, Stop>
+    // A variable comes to life above what is in use, unwritten; its first cell is told. Fault 35 where it does not fit.
+    pub fn lay<L: Layout>(&mut self, layout: &L) -> Result<i64, Stop>
         ensures result { result ≡ (laid (L.kinds layout.now) (memory self.old)).0 }
         ensures after { memory self.new ≡ (laid (L.kinds layout.now) (memory self.old)).1 }
+        ensures heap { LeavesHeap (memory self.old) (memory self.new) }
+        ensures first { KeepsFirst (memory self.old).used (memory self.old) (memory self.new) }
     {
         let size = layout.size();
         let used = self.used;
@@ -31,9 +34,12 @@ impl Store {
         Ok((used + 1) as i64)
     }
 
-    fn lay_argument(&mut self, value: Value) -> Result<i64, Stop>
+    // A parameter comes to life above what is in use, holding its argument; its cell is told. Fault 35 where it does not fit.
+    pub fn lay_value(&mut self, value: Value) -> Result<i64, Stop>
         ensures result { result ≡ (laid_value value (memory self.old)).0 }
         ensures after { memory self.new ≡ (laid_value value (memory self.old)).1 }
+        ensures heap { LeavesHeap (memory self.old) (memory self.new) }
+        ensures first { KeepsFirst (memory self.old).used (memory self.old) (memory self.new) }
     {
         let used = self.used;
         if value.kind().is_none() {
@@ -47,42 +53,16 @@ impl Store {
         Ok((used + 1) as i64)
     }
 
-    fn drop_above(&mut self, mark: usize)
-        ensures { memory self.new ≡ given_up mark (memory self.old) }
-    {
-        let used = self.used;
-        if mark < used {
-            self.table.clear(mark, used - mark);
-            self.used = mark;
-        }
-    }
-
-    // A variable comes to life above what is in use, unwritten; its first cell is told. Fault 35 where it does not fit.
-    pub fn lay<L: Layout>(&mut self, layout: &L) -> Result<i64, Stop>
-        ensures result { result ≡ (laid (L.kinds layout.now) (memory self.old)).0 }
-        ensures after { memory self.new ≡ (laid (L.kinds layout.now) (memory self.old)).1 }
-        ensures heap { LeavesHeap (memory self.old) (memory self.new) }
-        ensures first { KeepsFirst (memory self.old).used (memory self.old) (memory self.new) }
-    {
-        self.lay_row(layout)
-    }
-
-    // A parameter comes to life above what is in use, holding its argument; its cell is told. Fault 35 where it does not fit.
-    pub fn lay_value(&mut self, value: Value) -> Result<i64, Stop>
-        ensures result { result ≡ (laid_value value (memory self.old)).0 }
-        ensures after { memory self.new ≡ (laid_value value (memory self.old)).1 }
-        ensures heap { LeavesHeap (memory self.old) (memory self.new) }
-        ensures first { KeepsFirst (memory self.old).used (memory self.old) (memory self.new) }
-    {
-        self.lay_argument(value)
-    }
-
     // Everything above a mark dies.
     pub fn give_up(&mut self, mark: usize)
         ensures after { memory self.new ≡ given_up mark (memory self.old) }
         ensures heap { LeavesHeap (memory self.old) (memory self.new) }
         ensures first { KeepsFirst mark (memory self.old) (memory self.new) }
     {
-        self.drop_above(mark)
+        let used = self.used;
+        if mark < used {
+            self.table.clear(mark, used - mark);
+            self.used = mark;
+        }
     }
 }

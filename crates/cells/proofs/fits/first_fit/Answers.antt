@@ -30,18 +30,12 @@ row-preserved c =
       c.row.invariant.1 ∙ row_more cs s i c.args.size c.row-test.true (dead_read cs (s + i) _ c.ne.result false (omega arith) c.ne.ensures c.if-ne.false),
     )
 
-pub returns-in-starts : goal.returns-in-starts
-returns-in-starts c =
+pub returns-in-starts-clause-value : goal.returns-in-starts-clause-value
+returns-in-starts-clause-value c =
     let cs = c.args.cells.now in
     let full : row cs c.starts.start c.args.size ≡ true = c.row.invariant.1 ∙ row_none cs (c.starts.start + c.row.i) (c.args.size - c.row.i) (omega arith) in
-    record {
-      value = sym (from_here cs c.args.size c.starts.start (omega arith) full) ∙ c.starts.invariant.1;
-      within = c.starts-test.true;
-    }
+    sym (from_here cs c.args.size c.starts.start (omega arith) full) ∙ c.starts.invariant.1
 
-pub returns : goal.returns
-returns c =
-    record {
-      value = sym (from_none c.args.cells.now c.args.size c.starts.start (length c.args.cells.now - c.starts.start) (omega arith)) ∙ c.starts.invariant.1;
-      within = tt;
-    }
+pub returns-clause-value : goal.returns-clause-value
+returns-clause-value c =
+    sym (from_none c.args.cells.now c.args.size c.starts.start (length c.args.cells.now - c.starts.start) (omega arith)) ∙ c.starts.invariant.1

@@ -1,15 +1,10 @@
-use Rattle.std.proofs.Common.{◌≡◌, sym, ap, ◌∙◌, subst, w64}
-use Rattle.std.proofs.lemmas.Int.{to_z-of_z}
-use Rattle.cells.specs.Laws.{LeavesVariables}
-use Rattle.cells.specs.Memory.{deleted}
-use Rattle.cells.specs.Views.{memory}
-use Rattle.cells.proofs.Kept.{deleted_keeps}
+use Rattle.std.proofs.Common.{take, replicate, refl, ap, ◌∙◌, arith}
+use Rattle.cells.specs.Views.{cells_of}
+use Rattle.cells.specs.declared.cell.Cell.TheVariants.{Dead}
+use Rattle.cells.proofs.Kept.{take-row_put}
 use Rattle.cells.proofs.stores.Store.delete.Goals as goal
 
-pub returns : goal.returns
-returns c =
-    let m = memory c.args.self.now in
-    let passed = to_z-of_z w64 c.args.address c.ranges.address in
-    let result : c.drop_block.result ≡ (deleted c.args.address m).0 = c.drop_block.ensures.result ∙ ap (λ a. (deleted a m).0) passed in
-    let after : memory c.drop_block.new.self ≡ (deleted c.args.address m).1 = c.drop_block.ensures.after ∙ ap (λ a. (deleted a m).1) passed in
-    record { result = result; after = after; variables = subst (LeavesVariables m) (sym after) (deleted_keeps c.args.address m) }
+pub returns-clause-variables : goal.returns-clause-variables
+returns-clause-variables c =
+    let above = rw c.in_ok-i.ensures.ok_part at c.checked_sub.ensures in
+    (ap (take 1024) c.clear.ensures ∙ take-row_put 1024 (cells_of c.args.self.now.table) c.in_ok-place.place (replicate c.from.result Dead) (omega arith), refl)

@@ -1,17 +1,18 @@
-use Rattle.std.proofs.Common.{sym, subst}
-use Rattle.cells.specs.Laws.{KeepsFirst, LeavesHeap}
-use Rattle.cells.specs.Views.{memory}
-use Rattle.cells.proofs.Kept.{given_up_heap, given_up_first}
+use Rattle.std.proofs.Common.{◌-◌, take, drop, replicate, ap, ◌∙◌, arith}
+use Rattle.std.proofs.lemmas.List.{length-replicate}
+use Rattle.cells.specs.Views.{cells_of}
+use Rattle.cells.specs.declared.cell.Cell.TheVariants.{Dead}
+use Rattle.cells.proofs.Kept.{drop-row_put, take-row_put}
 use Rattle.cells.proofs.stores.Store.give_up.Goals as goal
 
-pub returns : goal.returns
-returns c =
+pub returns-then-mark-used-clause-heap : goal.returns-then-mark-used-clause-heap
+returns-then-mark-used-clause-heap c =
     let s = c.args.self.now in
-    let m = memory s in
-    let mark = c.args.mark in
-    let done = c.drop_above.ensures in
-    record {
-      after = done;
-      heap = subst (LeavesHeap m) (sym done) (given_up_heap mark m s.most);
-      first = subst (KeepsFirst mark m) (sym done) (given_up_first mark m);
-    }
+    let few = s.most in
+    let gone = replicate (s.used - c.args.mark) Dead in
+    ap (drop 1024) c.clear.ensures ∙ drop-row_put 1024 (cells_of s.table) c.args.mark gone (omega (arith, length-replicate (s.used - c.args.mark) Dead))
+
+pub returns-then-mark-used-clause-first : goal.returns-then-mark-used-clause-first
+returns-then-mark-used-clause-first c =
+    let s = c.args.self.now in
+    ap (take c.args.mark) c.clear.ensures ∙ take-row_put c.args.mark (cells_of s.table) c.args.mark (replicate (s.used - c.args.mark) Dead) (omega arith)

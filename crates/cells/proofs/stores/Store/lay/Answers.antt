@@ -1,11 +1,17 @@
-use Rattle.std.proofs.Common.{sym, subst}
-use Rattle.cells.specs.Views.{memory}
-use Rattle.cells.proofs.Kept.{Above, laid_keeps}
+use Rattle.std.proofs.Common.{take, drop, ap, ◌∙◌, arith}
+use Rattle.cells.specs.Layouts.{fresh}
+use Rattle.cells.specs.Views.{cells_of}
+use Rattle.cells.proofs.Kept.{drop-row_put, take-row_put}
+use Rattle.cells.proofs.Rows.{length-fresh}
 use Rattle.cells.proofs.stores.Store.lay.Goals as goal
 
-pub returns : goal.returns
-returns g c =
-    let m = memory c.args.self.now in
-    let done = c.lay_row.ensures in
-    let kept = subst (Above m) (sym done.after) (laid_keeps (g.L.Layout.kinds c.args.layout.now) m) in
-    record { result = done.result; after = done.after; heap = kept.heap; first = kept.first }
+pub returns-clause-heap : goal.returns-clause-heap
+returns-clause-heap g c =
+    let s = c.args.self.now in
+    let ks = g.L.Layout.kinds c.args.layout.now in
+    ap (drop 1024) c.revive.ensures ∙ drop-row_put 1024 (cells_of s.table) s.used (fresh ks) (omega (arith, length-fresh ks))
+
+pub returns-clause-first : goal.returns-clause-first
+returns-clause-first g c =
+    let s = c.args.self.now in
+    ap (take s.used) c.revive.ensures ∙ take-row_put s.used (cells_of s.table) s.used (fresh (g.L.Layout.kinds c.args.layout.now)) (omega arith)

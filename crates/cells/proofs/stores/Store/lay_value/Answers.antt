@@ -1,11 +1,9 @@
-use Rattle.std.proofs.Common.{sym, subst}
-use Rattle.cells.specs.Views.{memory}
-use Rattle.cells.proofs.Kept.{Above, laid_value_keeps}
+use Rattle.std.proofs.Common.{drop, ap, ◌∙◌, arith}
+use Rattle.std.proofs.lemmas.List.{drop-set-lt}
+use Rattle.cells.specs.Views.{cells_of}
 use Rattle.cells.proofs.stores.Store.lay_value.Goals as goal
 
-pub returns : goal.returns
-returns c =
-    let m = memory c.args.self.now in
-    let done = c.lay_argument.ensures in
-    let kept = subst (Above m) (sym done.after) (laid_value_keeps c.args.value m) in
-    record { result = done.result; after = done.after; heap = kept.heap; first = kept.first }
+pub returns-clause-heap : goal.returns-clause-heap
+returns-clause-heap c =
+    let s = c.args.self.now in
+    ap (drop 1024) c.put.ensures ∙ drop-set-lt 1024 (cells_of s.table) s.used _ (omega arith)

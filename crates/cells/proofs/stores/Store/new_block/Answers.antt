@@ -1,24 +1,47 @@
-use Rattle.std.proofs.Common.{◌≡◌, length, drop, vec_items, sym, subst, arith}
-use Rattle.cells.specs.Laws.{Finds, LeavesVariables, Restores}
-use Rattle.cells.specs.Memory.{new_block}
-use Rattle.cells.specs.Views.{memory}
-use Rattle.cells.proofs.Kept.{new_block_keeps}
-use Rattle.cells.proofs.Restored.{new_block_finds, new_block_restores}
+use Rattle.std.proofs.Common.{◌≡◌, ◌+◌, ◌<◌, length, take, drop, pos, None, Some, Err, sym, refl, ap, ◌∙◌, subst, arith, rules, w64, to_z, vec_items}
+use Rattle.std.proofs.lemmas.Int.{to_z_pos}
+use Rattle.std.proofs.lemmas.List.{length-drop, get_or-set_same}
+use Rattle.reason.specs.declared.faults.RunFault.TheVariants.{HeapFull}
+use Rattle.value.specs.declared.values.Stop.TheVariants.{Fault}
+use Rattle.cells.specs.Laws.{Finds}
+use Rattle.cells.specs.Layouts.{fresh}
+use Rattle.cells.specs.Views.{cells_of}
+use Rattle.cells.proofs.Found.{found_lowest}
+use Rattle.cells.proofs.Kept.{take-row_put}
+use Rattle.cells.proofs.Restored.{deleted_back}
+use Rattle.cells.proofs.Rows.{length-fresh}
 use Rattle.cells.proofs.stores.Store.new_block.Goals as goal
 
-pub returns : goal.returns
-returns g c =
+pub returns-then-size-gt1024-clause-lowest : goal.returns-then-size-gt1024-clause-lowest
+returns-then-size-gt1024-clause-lowest g c = λ j r. omega (arith, r.0, length-drop 1024 (cells_of c.args.self.now.table))
+
+pub returns-in_err-i-clause-lowest : goal.returns-in_err-i-clause-lowest
+returns-in_err-i-clause-lowest g c =
+    let heap = drop 1024 (cells_of c.args.self.now.table) in
+    let n = length (g.L.Layout.kinds c.args.layout.now) in
+    let refused : c.from_residual.result ≡ Err (Fault HeapFull) = search rules in
+    subst (Finds heap n) (sym refused) (found_lowest heap _ n _ None (omega arith) c.heap.ensures.value c.size-size.ensures.value (sym c.in_err-i.ensures.ok_part ∙ c.first_fit.ensures.value))
+
+pub returns-clause-lowest : goal.returns-clause-lowest
+returns-clause-lowest g c =
+    let i = c.in_ok-i.i in
+    let low = rw c.in_ok-i.ensures.ok_part at c.first_fit.ensures.within in
+    let address : to_z w64 (1025 + i) ≡ pos (1025 + i) = to_z_pos w64 (1025 + i) (omega (arith, c.heap.ensures.long)) in
+    (i, address, found_lowest _ _ _ _ (Some i) (omega arith) c.heap.ensures.value c.size-size.ensures.value (sym c.in_ok-i.ensures.ok_part ∙ c.first_fit.ensures.value))
+
+pub returns-clause-undone : goal.returns-clause-undone
+returns-clause-undone g c =
     let s = c.args.self.now in
-    let m = memory s in
-    let ks = g.L.Layout.kinds c.args.layout.now in
-    let some = c.take_block.ensures.some in
-    let long : length (vec_items s.table.cells) ≡ 2048 = omega (arith, s.table.cells.ok.0) in
-    let starts : length (vec_items s.blocks) ≡ 1024 = omega (arith, s.blocks.ok.0) in
-    let done = c.take_block.ensures in
-    record {
-      result = done.result;
-      after = done.after;
-      lowest = subst (Finds (drop 1024 m.cells) (length ks)) (sym done.result) (new_block_finds ks m some long starts);
-      undone = subst (λ r. Restores m r (memory c.take_block.new.self)) (sym done.result) (subst (Restores m (new_block ks m).0) (sym done.after) (new_block_restores ks m some long starts));
-      variables = subst (LeavesVariables m) (sym done.after) (new_block_keeps ks m);
-    }
+    let row = fresh (g.L.Layout.kinds c.args.layout.now) in
+    let i = c.in_ok-i.i in
+    let within = rw c.in_ok-i.ensures.ok_part at c.first_fit.ensures.within in
+    let low : i < 1024 = omega (arith, c.heap.ensures.long) in
+    let address : to_z w64 (1025 + i) ≡ pos (1025 + i) = to_z_pos w64 (1025 + i) (omega arith) in
+    let size : c.size-size.result ≡ length row = c.size-size.ensures.value ∙ sym (length-fresh (g.L.Layout.kinds c.args.layout.now)) in
+    let held = get_or-set_same (vec_items s.blocks) i (Some c.size-size.result) None (omega (arith, s.blocks.ok.0)) ∙ ap Some size in
+    let lowest = found_lowest (drop 1024 (cells_of s.table)) _ (length row) _ (Some i) (omega arith) c.heap.ensures.value size (sym c.in_ok-i.ensures.ok_part ∙ c.first_fit.ensures.value) in
+    deleted_back (cells_of s.table) row i _ _ address low held c.revive.ensures lowest.0
+
+pub returns-clause-variables : goal.returns-clause-variables
+returns-clause-variables g c =
+    (ap (take 1024) c.revive.ensures ∙ take-row_put 1024 (cells_of c.args.self.now.table) (1024 + c.in_ok-i.i) (fresh (g.L.Layout.kinds c.args.layout.now)) (omega arith), refl)

@@ -1,16 +1,12 @@
-use Rattle.std.proofs.Common.{◌≡◌, sym, ap, ◌∙◌, subst, w64}
-use Rattle.std.proofs.lemmas.Int.{to_z-of_z}
-use Rattle.cells.specs.Laws.{KeepsKinds}
-use Rattle.cells.specs.Memory.{written}
-use Rattle.cells.specs.Views.{memory}
-use Rattle.cells.proofs.Kept.{written_keeps}
+use Rattle.std.proofs.Common.{map, sym, ap, ◌∙◌}
+use Rattle.cells.specs.Cells.{at, kind_in}
+use Rattle.cells.specs.Views.{cells_of}
+use Rattle.cells.proofs.Kept.{set_same_kind, written_kind}
 use Rattle.cells.proofs.stores.Store.write.Goals as goal
 
-pub returns : goal.returns
-returns c =
-    let m = memory c.args.self.now in
-    let v = c.args.value in
-    let passed = to_z-of_z w64 c.args.address c.ranges.address in
-    let result : c.set_cell.result ≡ (written c.args.address v m).0 = c.set_cell.ensures.result ∙ ap (λ a. (written a v m).0) passed in
-    let after : memory c.set_cell.new.self ≡ (written c.args.address v m).1 = c.set_cell.ensures.after ∙ ap (λ a. (written a v m).1) passed in
-    record { result = result; after = after; kinds = subst (KeepsKinds m) (sym after) (written_keeps c.args.address v m) }
+pub returns-in-Some-clause-kinds : goal.returns-in-Some-clause-kinds
+returns-in-Some-clause-kinds c =
+    let cs = cells_of c.args.self.now.table in
+    let old = c.cell.ensures ∙ ap (λ o. at o cs) (sym c.index_of.ensures.value ∙ c.in-Some.is) in
+    let same = written_kind c.args.value c.cell.result c.in_ok-cell.cell (sym c.written.ensures ∙ c.in_ok-cell.was) in
+    ap (map kind_in) c.put.ensures ∙ set_same_kind cs c.in-Some.place c.in_ok-cell.cell (same ∙ ap kind_in old)

@@ -1,16 +1,10 @@
-use Rattle.std.proofs.Common.{◌≡◌, ◌+◌, ◌<◌, ◌≤◌, length, drop, sym, ap, ◌∙◌, arith}
+use Rattle.std.proofs.Common.{◌≡◌, ◌+◌, ◌<◌, length, drop, ap, ◌∙◌, arith}
 use Rattle.cells.specs.Layouts.{fresh}
 use Rattle.cells.specs.Rows.{row_put}
 use Rattle.cells.specs.Views.{cells_of}
-use Rattle.cells.proofs.Rows.{revive_more, revive_end, kind_there}
+use Rattle.cells.proofs.Rows.{revive_more, kind_there}
 use Rattle.cells.proofs.tables.Table.revive.Goals as goal
 use Rattle.cells.proofs.tables.Table.revive.Goals.{in-Some, in_default}
-
-pub loop-i-init : goal.loop-i-init
-loop-i-init g c =
-    let ks = g.L.Layout.kinds c.args.layout.now in
-    let at : c.args.at + 0 ≡ c.args.at = omega arith in
-    ap (λ n. row_put (cells_of c.args.self.now) n (fresh ks)) at
 
 pub loop-i-preserved : goal.loop-i-preserved
 loop-i-preserved g c =
@@ -23,9 +17,3 @@ loop-i-preserved g c =
       | in_default w ↦ absurd (kind_there ks i within w.in_default.ensures)
     ] in
     more ∙ c.loop-i.invariant
-
-pub returns : goal.returns
-returns g c =
-    let ks = g.L.Layout.kinds c.args.layout.now in
-    let past : length ks ≤ c.loop-i.i = omega arith in
-    sym (revive_end (cells_of c.loop-i.self) c.args.at c.loop-i.i ks past) ∙ c.loop-i.invariant
