@@ -9,96 +9,98 @@ use cells::stores::Store;
 use reason::causes::Cause;
 use shapes::forms::Shape;
 use shapes::tables::Shapes;
+use std::alloc::{AllocError, Global};
 use value::binary::evaluate;
 use value::kinds::Kind;
 use value::unary::cast;
 use value::values::{Stop, Value};
 
 fn main(rt: HostRuntime) -> anyhow::Result<()> {
-    let mut store = Store::new(rt.alloc())?;
-    let mut shapes = Shapes::new(rt.alloc())?;
-    shapes.add(Shape::Scalar(Kind::Int));
+    let mut memory = Memory::new(rt.alloc())?;
     for line in rt.lines(rt.alloc()) {
         let line = line?;
-        answer(&rt, &mut store, &mut shapes, line.as_str())?;
+        memory.answer(&rt, line.as_str())?;
     }
     Ok(())
 }
 
-// The next word as a number; 0 where there is none.
-fn number(word: Option<&str>) -> i64 {
-    match word {
-        Some(text) => text.parse::<i64>().unwrap_or(0),
-        None => 0,
-    }
+// The cells of a run, and the shapes of its types.
+#[derive(Drop)]
+struct Memory {
+    store: Store,
+    shapes: Shapes,
 }
 
-fn kind_of(word: Option<&str>) -> Kind {
-    match word {
-        Some("char") => Kind::Char,
-        Some("bool") => Kind::Bool,
-        Some("pointer") => Kind::Pointer,
-        _ => Kind::Int,
+impl Memory {
+    // No block is taken, and the shape at place 0 is an int.
+    fn new(heap: Global) -> Result<Memory, AllocError> {
+        let store = Store::new(heap)?;
+        let mut shapes = Shapes::new(heap)?;
+        shapes.add(Shape::Scalar(Kind::Int));
+        Ok(Memory { store, shapes })
     }
-}
 
-fn value_of(kind: Option<&str>, n: i64) -> Value {
-    match kind {
-        Some("char") => Value::Char(n.rem_euclid(256) as u8),
-        Some("bool") => Value::Bool(n != 0),
-        Some("pointer") => Value::Pointer(n),
-        Some("int") => Value::Int(n),
-        _ => Value::Nothing,
-    }
-}
-
-fn answer(
-    rt: &HostRuntime,
-    store: &mut Store,
-    shapes: &mut Shapes,
-    line: &str,
-) -> anyhow::Result<()> {
-    let mut words = line.split(' ');
-    match words.next() {
-        Some("eval") => {
-            let code = number(words.next()).rem_euclid(256) as u8;
-            let kind = words.next();
-            let left = value_of(kind, number(words.next()));
-            let other = words.next();
-            let right = value_of(other, number(words.next()));
-            show(rt, evaluate(code, left, right))
+    fn answer(&mut self, rt: &HostRuntime, line: &str) -> anyhow::Result<()> {
+        let mut words = line.split(' ');
+        match words.next() {
+            Some("eval") => {
+                let code = number(words.next()).rem_euclid(256) as u8;
+                let left = value_of(kind_of(words.next()), number(words.next()));
+                let right = value_of(kind_of(words.next()), number(words.next()));
+                show(rt, evaluate(code, left, right))
+            }
+            Some("cast") => {
+                let operand = value_of(kind_of(words.next()), number(words.next()));
+                let kind = kind_of(words.next()).unwrap_or(Kind::Int);
+                show(rt, cast(operand, kind))
+            }
+            Some("new") => self.block(rt, number(words.next())),
+            Some("del") => match self.store.delete(number(words.next())) {
+                Ok(()) => Ok(println!(rt; "done")?),
+                Err(stop) => tell(rt, stop),
+            },
+            _ => Ok(println!(rt; "?")?),
         }
-        Some("cast") => {
-            let kind = words.next();
-            let operand = value_of(kind, number(words.next()));
-            show(rt, cast(operand, kind_of(words.next())))
-        }
-        Some("new") => block(rt, store, shapes, number(words.next())),
-        Some("del") => match store.delete(number(words.next())) {
-            Ok(()) => Ok(println!(rt; "done")?),
+    }
+
+    // A block of that many ints.
+    fn block(&mut self, rt: &HostRuntime, size: i64) -> anyhow::Result<()> {
+        let count = size.rem_euclid(2048) as usize;
+        let array = Shape::Array { count, element: 0 };
+        let place = self.shapes.add(array).unwrap_or(2000);
+        let Some(layout) = self.shapes.laid(place) else {
+            return Ok(println!(rt; "no such shape")?);
+        };
+        match self.store.new_block(&layout) {
+            Ok(address) => Ok(println!(rt; "{address}")?),
             Err(stop) => tell(rt, stop),
-        },
-        _ => Ok(println!(rt; "?")?),
+        }
     }
 }
 
-// A block of that many ints.
-fn block(
-    rt: &HostRuntime,
-    store: &mut Store,
-    shapes: &mut Shapes,
-    size: i64,
-) -> anyhow::Result<()> {
-    let count = size.rem_euclid(2048) as usize;
-    let place = shapes
-        .add(Shape::Array { count, element: 0 })
-        .unwrap_or(2000);
-    let Some(layout) = shapes.laid(place) else {
-        return Ok(println!(rt; "no such shape")?);
-    };
-    match store.new_block(&layout) {
-        Ok(address) => Ok(println!(rt; "{address}")?),
-        Err(stop) => tell(rt, stop),
+// A word as a number; 0 where there is none.
+fn number(word: Option<&str>) -> i64 {
+    word.map_or(0, |text| text.parse::<i64>().unwrap_or(0))
+}
+
+// A word as a kind; nothing for any other word.
+fn kind_of(word: Option<&str>) -> Option<Kind> {
+    match word {
+        Some("char") => Some(Kind::Char),
+        Some("int") => Some(Kind::Int),
+        Some("bool") => Some(Kind::Bool),
+        Some("pointer") => Some(Kind::Pointer),
+        _ => None,
+    }
+}
+
+fn value_of(kind: Option<Kind>, n: i64) -> Value {
+    match kind {
+        Some(Kind::Char) => Value::Char(n.rem_euclid(256) as u8),
+        Some(Kind::Int) => Value::Int(n),
+        Some(Kind::Bool) => Value::Bool(n != 0),
+        Some(Kind::Pointer) => Value::Pointer(n),
+        None => Value::Nothing,
     }
 }
 
