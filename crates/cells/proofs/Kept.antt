@@ -1,10 +1,9 @@
 -- What the calls leave as it was. Assumes nothing.
-use Rattle.std.proofs.Common.{◌≡◌, ℕ, zero, suc, ◌+◌, ◌≤◌, true, eqb, List, [], ◌∷◌, map, length, get_or, take, drop, set, Some, None, Ok, Option, sym, refl, ap, ◌∙◌, arith, rules}
+use Rattle.std.proofs.Common.{◌≡◌, ℕ, zero, suc, ◌+◌, ◌≤◌, true, eqb, List, [], ◌∷◌, map, length, get_or, take, drop, set, None, Ok, sym, refl, ap, ◌∙◌, arith, rules}
 use Rattle.std.proofs.lemmas.List.{map-set, set-get_or, take-set-le, drop-set-lt}
-use Rattle.value.specs.Values.{kind_of}
 use Rattle.value.specs.declared.kinds.Kind.{Kind}
 use Rattle.value.specs.declared.values.Value.{Value}
-use Rattle.cells.specs.Cells.{cell_of, is_kind, kind_in, rank, written_by}
+use Rattle.cells.specs.Cells.{kind_in, rank, written_by}
 use Rattle.cells.specs.Rows.{row_put}
 use Rattle.cells.specs.declared.cell.Cell.{Cell}
 use Rattle.cells.specs.declared.cell.Cell.TheVariants as cell
@@ -21,12 +20,6 @@ drop-row_put n cs i (x ∷ xs) h = drop-row_put n (set cs i x) (i + 1) xs (omega
 -- writing
 rank_same : (j k : Kind) → eqb (rank j) (rank k) ≡ true → j ≡ k
 rank_same j k e = search rules
-
-is_kind_same : (o : Option Kind) (k : Kind) → is_kind o k ≡ true → o ≡ Some k
-is_kind_same o k e = search (rules, rank_same)
-
-holding_kind : (v : Value) → kind_in (cell_of v) ≡ kind_of v
-holding_kind v = search rules
 
 pub written_kind : (v : Value) (c d : Cell) → written_by v c ≡ Ok d → kind_in d ≡ kind_in c
 written_kind v c d e = search (rules, rank_same)

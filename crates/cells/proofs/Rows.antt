@@ -1,6 +1,6 @@
 -- Rows of cells put into the table. Assumes nothing.
-use Rattle.std.proofs.Common.{◌≡◌, ℕ, zero, suc, ◌+◌, ◌-◌, ◌<◌, ◌≤◌, List, [], ◌∷◌, length, drop, set, replicate, Some, None, sym, ap, ◌∙◌, arith}
-use Rattle.std.proofs.lemmas.List.{drop_all, length-map}
+use Rattle.std.proofs.Common.{◌≡◌, ℕ, zero, suc, ◌+◌, ◌-◌, ◌<◌, List, [], ◌∷◌, length, drop, set, replicate, Some, None, sym, ap, ◌∙◌, arith}
+use Rattle.std.proofs.lemmas.List.{length-map}
 use Rattle.value.specs.declared.kinds.Kind.{Kind}
 use Rattle.cells.specs.Layouts.{kind_at, fresh}
 use Rattle.cells.specs.Rows.{row_put}
@@ -30,15 +30,9 @@ revive_more cs cs' at i ks k e p =
     let n : at + (i + 1) ≡ at + i + 1 = omega arith in
     (λ t. row_put (p t) (n t) (fresh (drop (i + 1) ks))) ∙ sym (ap (λ l. row_put cs (at + i) (fresh l)) (kind_first ks i k e))
 
-pub revive_end : (cs : List Cell) (at i : ℕ) (ks : List Kind) → length ks ≤ i → row_put cs (at + i) (fresh (drop i ks)) ≡ cs
-revive_end cs at i ks h = ap (λ l. row_put cs (at + i) (fresh l)) (drop_all i ks h)
-
 -- one cell more dies
 pub clear_more : (cs cs' : List Cell) (at i n : ℕ) → i < n → cs' ≡ set cs (at + i) Dead → row_put cs' (at + (i + 1)) (replicate (n - (i + 1)) Dead) ≡ row_put cs (at + i) (replicate (n - i) Dead)
 clear_more cs cs' at i n h p =
     let m : at + (i + 1) ≡ at + i + 1 = omega arith in
     let l : n - i ≡ suc (n - (i + 1)) = omega arith in
     (λ t. row_put (p t) (m t) (replicate (n - (i + 1)) Dead)) ∙ sym (ap (λ k. row_put cs (at + i) (replicate k Dead)) l)
-
-pub clear_end : (cs : List Cell) (at i n : ℕ) → n ≤ i → row_put cs (at + i) (replicate (n - i) Dead) ≡ cs
-clear_end cs at i n h = let l : n - i ≡ 0 = omega arith in ap (λ k. row_put cs (at + i) (replicate k Dead)) l

@@ -90,12 +90,10 @@ fn shapes_of_types(rt: HostRuntime) -> Result<(), Fail> {
     assert_eq!(rt; shapes.add(Shape::Sequence { first: 2, rest: 0 }), None);
     assert_eq!(rt; shapes.size(2), 1024);
     let mut store = Store::new(rt.alloc())?;
-    match shapes.laid(2) {
-        Some(layout) => {
-            assert_eq!(rt; store.lay(&layout), Ok(1));
-            assert_eq!(rt; store.lay(&layout), Err(Stop::Fault(RunFault::StackFull)));
-            Ok(())
-        }
-        None => Err(Fail::new("no layout")),
-    }
+    let Some(layout) = shapes.laid(2) else {
+        return Err(Fail::new("no layout"));
+    };
+    assert_eq!(rt; store.lay(&layout), Ok(1));
+    assert_eq!(rt; store.lay(&layout), Err(Stop::Fault(RunFault::StackFull)));
+    Ok(())
 }
