@@ -1,6 +1,8 @@
 -- Rows of cells put into the table. Assumes nothing.
-use Rattle.std.proofs.Common.{◌≡◌, ℕ, zero, suc, ◌+◌, ◌-◌, ◌<◌, List, [], ◌∷◌, length, drop, set, replicate, Some, None, sym, ap, ◌∙◌, arith}
-use Rattle.std.proofs.lemmas.List.{length-map}
+use Rattle.std.proofs.Common.{◌≡◌, ℕ, suc, ◌+◌, ◌-◌, ◌<◌, List, ◌∷◌, length, drop, set, replicate, Some, None, sym, ap, ◌∙◌, arith}
+use Rattle.std.proofs.lemmas.List.{drop_more, length-map}
+use Rattle.std.proofs.lemmas.Option.{get_or_from_slice_get, slice_get-get_or, slice_get_within}
+use Rattle.value.specs.declared.kinds.Kind.TheVariants.{Char}
 use Rattle.value.specs.declared.kinds.Kind.{Kind}
 use Rattle.cells.specs.Layouts.{kind_at, fresh}
 use Rattle.cells.specs.Rows.{row_put}
@@ -11,17 +13,11 @@ pub length-fresh : (ks : List Kind) → length (fresh ks) ≡ length ks
 length-fresh ks = length-map ks Unwritten
 
 -- the kind at i comes before the rest
-pub kind_first : (ks : List Kind) (i : ℕ) (k : Kind) → Some k ≡ kind_at ks i → drop i ks ≡ k ∷ drop (i + 1) ks
-kind_first [] i k e = cc
-kind_first (x ∷ xs) zero k e = let same : x ≡ k = cc in ap (λ y. y ∷ xs) same
-kind_first (x ∷ xs) (suc i) k e =
-    let n : suc (i + 1) ≡ suc i + 1 = omega arith in
-    kind_first xs i k e ∙ ap (λ m. k ∷ drop m (x ∷ xs)) n
+kind_first : (ks : List Kind) (i : ℕ) (k : Kind) → Some k ≡ kind_at ks i → drop i ks ≡ k ∷ drop (i + 1) ks
+kind_first ks i k e = drop_more ks i k (slice_get_within ks i k (sym e)) ∙ ap (λ x. x ∷ drop (i + 1) ks) (get_or_from_slice_get ks i k k (sym e))
 
 pub kind_there : (ks : List Kind) (i : ℕ) → i < length ks → None ≡ kind_at ks i → ⊥
-kind_there [] i h e = absurd (omega arith)
-kind_there (x ∷ xs) zero h e = cc
-kind_there (x ∷ xs) (suc i) h e = kind_there xs i (omega arith) e
+kind_there ks i h e = let there = slice_get-get_or ks i Char h in cc
 
 -- one cell more comes to life
 pub revive_more : (cs cs' : List Cell) (at i : ℕ) (ks : List Kind) (k : Kind) → Some k ≡ kind_at ks i → cs' ≡ set cs (at + i) (Unwritten k) →

@@ -1,5 +1,5 @@
 -- Findings: at most 32 numbers. Assumes nothing.
-use Rattle.std.specs.Prelude.{ℕ, cond, List, [], ◌∷◌, ◌++◌, length, ℤ, pos, Some, None, Ok, Err, Option, Result, nat_lt, slice_index_or}
+use Rattle.std.specs.Prelude.{ℕ, cond, List, [], ◌∷◌, ◌++◌, length, ℤ, Ok, Err, Option, Result, nat_lt, slice_get}
 use Rattle.reason.specs.declared.faults.RunFault.TheVariants.{FindingsFull}
 use Rattle.value.specs.declared.values.Stop.{Stop}
 use Rattle.value.specs.declared.values.Stop.TheVariants.{Fault}
@@ -10,4 +10,4 @@ added n fs = cond (nat_lt (length fs) 32) (Ok tt, fs ++ n ∷ []) (Err (Fault Fi
 
 -- finding k, counted from 0 and absent exactly from the count on
 abbrev pub number_at : List ℤ → ℕ → Option ℤ
-number_at fs k = cond (nat_lt k (length fs)) (Some (slice_index_or fs k (pos 0))) None
+number_at fs k = slice_get fs k

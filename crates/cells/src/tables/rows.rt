@@ -37,8 +37,8 @@ impl Table {
     pub fn put(&mut self, place: usize, cell: Cell)
         ensures { cells_of self.new ≡ slice_set (cells_of self.old) place cell }
     {
-        if place < self.cells.len() {
-            self.cells[place] = cell;
+        if let Some(old) = self.cells.get_mut(place) {
+            *old = cell;
         }
     }
 
