@@ -1,5 +1,5 @@
 -- Rows of cells put into the table. Assumes nothing.
-use Rattle.std.proofs.Common.{◌≡◌, ℕ, suc, ◌+◌, ◌-◌, ◌<◌, List, ◌∷◌, length, drop, set, replicate, Some, None, sym, ap, ◌∙◌, arith}
+use Rattle.std.proofs.Common.{◌≡◌, ℕ, ◌+◌, ◌<◌, List, ◌∷◌, length, drop, set, Some, None, sym, ap, ◌∙◌, arith}
 use Rattle.std.proofs.lemmas.List.{drop_more, length-map}
 use Rattle.std.proofs.lemmas.Option.{get_or_from_slice_get, slice_get-get_or, slice_get_within}
 use Rattle.value.specs.declared.kinds.Kind.TheVariants.{Char}
@@ -7,7 +7,7 @@ use Rattle.value.specs.declared.kinds.Kind.{Kind}
 use Rattle.cells.specs.Layouts.{kind_at, fresh}
 use Rattle.cells.specs.Rows.{row_put}
 use Rattle.cells.specs.declared.cell.Cell.{Cell}
-use Rattle.cells.specs.declared.cell.Cell.TheVariants.{Dead, Unwritten}
+use Rattle.cells.specs.declared.cell.Cell.TheVariants.{Unwritten}
 
 pub length-fresh : (ks : List Kind) → length (fresh ks) ≡ length ks
 length-fresh ks = length-map ks Unwritten
@@ -25,10 +25,3 @@ pub revive_more : (cs cs' : List Cell) (at i : ℕ) (ks : List Kind) (k : Kind) 
 revive_more cs cs' at i ks k e p =
     let n : at + (i + 1) ≡ at + i + 1 = omega arith in
     (λ t. row_put (p t) (n t) (fresh (drop (i + 1) ks))) ∙ sym (ap (λ l. row_put cs (at + i) (fresh l)) (kind_first ks i k e))
-
--- one cell more dies
-pub clear_more : (cs cs' : List Cell) (at i n : ℕ) → i < n → cs' ≡ set cs (at + i) Dead → row_put cs' (at + (i + 1)) (replicate (n - (i + 1)) Dead) ≡ row_put cs (at + i) (replicate (n - i) Dead)
-clear_more cs cs' at i n h p =
-    let m : at + (i + 1) ≡ at + i + 1 = omega arith in
-    let l : n - i ≡ suc (n - (i + 1)) = omega arith in
-    (λ t. row_put (p t) (m t) (replicate (n - (i + 1)) Dead)) ∙ sym (ap (λ k. row_put cs (at + i) (replicate k Dead)) l)

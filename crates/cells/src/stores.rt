@@ -7,7 +7,7 @@ pub mod heap;
 pub mod variables;
 
 // The 2,048 cells: 1 to 1,024 for variables, of which the first ones are in use, and 1,025 to 2,048 for `new`, with the size of
-// the block that begins at each.
+// the block that begins at each, where one does.
 #[derive(Drop)]
 pub struct Store {
     table: Table,

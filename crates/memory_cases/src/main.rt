@@ -67,8 +67,8 @@ impl Memory {
     fn block(&mut self, rt: &HostRuntime, size: i64) -> anyhow::Result<()> {
         let count = size.rem_euclid(2048) as usize;
         let array = Shape::Array { count, element: 0 };
-        let place = self.shapes.add(array).unwrap_or(2000);
-        let Some(layout) = self.shapes.laid(place) else {
+        let place = self.shapes.add(array);
+        let Some(layout) = place.and_then(|i| self.shapes.laid(i)) else {
             return Ok(println!(rt; "no such shape")?);
         };
         match self.store.new_block(&layout) {

@@ -59,8 +59,8 @@ impl Table {
         requires { at + size < 2 ^ 32 }
         ensures { cells_of self.new ≡ row_put (cells_of self.old) at (replicate size Dead) }
     {
-        for i in 0..size {
-            self.put(at + i, Cell::Dead);
+        for place in at..at + size {
+            self.put(place, Cell::Dead);
         }
     }
 }
