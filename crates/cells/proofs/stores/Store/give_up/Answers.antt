@@ -1,4 +1,4 @@
-use Rattle.std.proofs.Common.{◌-◌, take, drop, replicate, ap, ◌∙◌, arith}
+use Rattle.std.proofs.Common.{◌-◌, drop, replicate, ap, ◌∙◌, arith}
 use Rattle.std.proofs.lemmas.List.{length-replicate}
 use Rattle.cells.specs.Views.{cells_of}
 use Rattle.cells.specs.declared.cell.Cell.TheVariants.{Dead}
@@ -13,6 +13,4 @@ returns-then-mark-used-clause-heap c =
     ap (drop 1024) c.clear.ensures ∙ drop-row_put 1024 (cells_of s.table) c.args.mark gone (omega (arith, length-replicate (s.used - c.args.mark) Dead))
 
 pub returns-then-mark-used-clause-first : goal.returns-then-mark-used-clause-first
-returns-then-mark-used-clause-first c =
-    let s = c.args.self.now in
-    ap (take c.args.mark) c.clear.ensures ∙ take-row_put c.args.mark (cells_of s.table) c.args.mark (replicate (s.used - c.args.mark) Dead) (omega arith)
+returns-then-mark-used-clause-first c = grind (arith, take-row_put)

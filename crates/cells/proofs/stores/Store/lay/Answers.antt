@@ -1,4 +1,4 @@
-use Rattle.std.proofs.Common.{take, drop, ap, ◌∙◌, arith}
+use Rattle.std.proofs.Common.{drop, ap, ◌∙◌, arith}
 use Rattle.cells.specs.Layouts.{fresh}
 use Rattle.cells.specs.Views.{cells_of}
 use Rattle.cells.proofs.Kept.{drop-row_put, take-row_put}
@@ -12,6 +12,4 @@ returns-clause-heap g c =
     ap (drop 1024) c.revive.ensures ∙ drop-row_put 1024 (cells_of s.table) s.used (fresh ks) (omega (arith, length-fresh ks))
 
 pub returns-clause-first : goal.returns-clause-first
-returns-clause-first g c =
-    let s = c.args.self.now in
-    ap (take s.used) c.revive.ensures ∙ take-row_put s.used (cells_of s.table) s.used (fresh (g.L.Layout.kinds c.args.layout.now)) (omega arith)
+returns-clause-first g c = grind (arith, take-row_put)
