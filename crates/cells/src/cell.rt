@@ -1,5 +1,5 @@
 ghost use Rattle.std.specs.Prelude.{◌≡◌, ◌<◌, IfSome};
-ghost use Rattle.cells.specs.Cells.{cell_of, contents_of, index_of, is_kind, kind_in, read_cell, written_by};
+ghost use Rattle.cells.specs.Cells.{cell_of, contents_of, index_of, kind_in, read_cell, written_by};
 
 use reason::faults::RunFault;
 use value::kinds::Kind;

@@ -1,5 +1,5 @@
 ghost use Rattle.std.specs.Prelude.{◌≡◌, IfOk};
-ghost use Rattle.cells.specs.Cells.{at, cell_at, read_cell};
+ghost use Rattle.cells.specs.Cells.{cell_at, read_cell};
 ghost use Rattle.cells.specs.Laws.{KeepsKinds};
 ghost use Rattle.cells.specs.Memory.{empty, written};
 ghost use Rattle.cells.specs.Views.{memory};

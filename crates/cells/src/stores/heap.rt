@@ -1,4 +1,4 @@
-ghost use Rattle.std.specs.Prelude.{◌≡◌, ◌≤◌, length, drop};
+ghost use Rattle.std.specs.Prelude.{◌≡◌, length, drop};
 ghost use Rattle.cells.specs.Laws.{Finds, LeavesVariables, Restores};
 ghost use Rattle.cells.specs.Memory.{deleted, new_block};
 ghost use Rattle.cells.specs.Views.{memory};
