@@ -1,9 +1,9 @@
 -- The rows of a table of shapes. Assumes nothing.
-use Rattle.std.proofs.Common.{◌≡◌, ℕ, zero, suc, ◌+◌, ◌-◌, ◌*◌, ◌%◌, ◌<◌, ◌≤◌, true, List, [], ◌∷◌, ◌++◌, map, length, get_or, vec_items, take, drop, Some, None, Option, Bor, sym, refl, ap, ◌∙◌, inl, inr, ⊎_elim, mod-eq_of_lt, zero-mul, arith}
+use Rattle.std.proofs.Common.{◌≡◌, ℕ, zero, suc, ◌+◌, ◌-◌, ◌*◌, ◌%◌, ◌<◌, ◌≤◌, true, List, [], ◌∷◌, ◌++◌, map, length, get_or, take, drop, Some, None, Option, Bor, sym, refl, ap, ◌∙◌, inl, inr, ⊎_elim, mod-eq_of_lt, zero-mul, arith}
 use native.Mathlib.Nat.{add-mod_right}
 use Rattle.std.proofs.lemmas.List.{get_or_at, get_or_read, get_or_append_left, get_or_past, get_or_push, length-map, get_or-map, map_push, length-append, length_push, length-take-le, drop_more, take-append-drop}
 use Rattle.std.proofs.lemmas.Bool.{and_parts, ltb-true, cases_lt}
-use Rattle.std.specs.Option.{MatchOption}
+use Rattle.std.specs.Prelude.{IfSome}
 use Rattle.std.specs.Slice.{IsItemAt}
 use Rattle.value.specs.declared.kinds.Kind.{Kind}
 use Rattle.value.specs.declared.kinds.Kind.TheVariants.{Char}
@@ -11,9 +11,10 @@ use Rattle.cells.specs.Layouts.{kind_at}
 use Rattle.shapes.specs.Forms.{Sizes, kinds_of, measured, refers_below, repeated, rows_from, rows_of}
 use Rattle.shapes.specs.Rows.{shapes_of, sizes_of}
 use Rattle.shapes.specs.declared.forms.Shape.{Shape}
-use Rattle.shapes.specs.Tables.{kinds_at, shapes_in}
+use Rattle.shapes.specs.Held.{Held}
+use Rattle.shapes.specs.Tables.{RowAt}
 use Rattle.shapes.specs.declared.tables.measured.Measured.{Measured}
-use Rattle.shapes.specs.declared.tables.Shapes.{Shapes}
+use Rattle.shapes.specs.declared.tables.Shapes.TheInside.{Inside}
 use Rattle.std.proofs.lemmas.Bool.Decides.{nat_tests}
 use Rattle.shapes.specs.declared.forms.Shape.TheVariants.{Scalar, Array, Sequence}
 
@@ -119,69 +120,22 @@ module _ (rows rows' : List Measured) (m : Measured) (more : rows' ≡ rows ++ m
   pub below_more : ((k : ℕ) → refers_below (get_or (shapes_of rows) k (Scalar Char)) k ≡ true) → refers_below m.shape (length rows) ≡ true → (k : ℕ) → refers_below (get_or (shapes_of rows') k (Scalar Char)) k ≡ true
   below_more f last k = rw shapes_more (pushed_below (shapes_of rows) m.shape f (rw length-map last) k)
 
--- a row that stands at a place
-pub record RowAt (t : Shapes) (i : ℕ) (row : Measured) : Type 0 where
-  pub within : i < length (vec_items t.rows)
-  pub read : row ≡ get_or (vec_items t.rows) i row
-
-pub row_found : (t : Shapes) (i : ℕ) (rows : List Measured) → rows ≡ vec_items t.rows → (row : Bor Measured) → IsItemAt rows i (Some row) → RowAt t i row.now
-row_found t i rows same row item = record {
-  within = omega (arith, item.3.0, ap length same);
-  read = item.1 ∙ ap (λ l. get_or l i row.now) same;
-}
-
-module _ (t : Shapes) (i : ℕ) (row : Measured) (at : RowAt t i row) where
-  pub size_at : row.size ≡ length (kinds_at t i)
-  size_at = ap (λ m. m.size) at.read ∙ sym (get_or-map (λ m. m.size) (vec_items t.rows) i row 0 at.within) ∙ ap (λ l. get_or l i 0) t.sized ∙ length_at (rows_of (shapes_in t)) i
-
-  shape_at : row.shape ≡ get_or (shapes_in t) i row.shape
-  shape_at = ap (λ m. m.shape) at.read ∙ sym (get_or-map (λ m. m.shape) (vec_items t.rows) i row row.shape at.within)
-
-  shape_within : i < length (shapes_in t)
-  shape_within = omega (arith, at.within, length-map (vec_items t.rows) (λ m. m.shape))
-
-  shape_below : refers_below row.shape i ≡ true
-  shape_below = ap (λ x. refers_below x i) (get_or_read (shapes_in t) i row.shape shape_within shape_at (Scalar Char)) ∙ t.below i
-
-  row_is : (x : Shape) → row.shape ≡ x → kinds_at t i ≡ kinds_of (rows_of (shapes_in t)) x
-  row_is x e = row_at (shapes_in t) i row.shape shape_within shape_at shape_below ∙ ap (kinds_of (rows_of (shapes_in t))) e
-
-  pub element_below : (n e : ℕ) → row.shape ≡ Array n e → e < i
-  element_below n e is = ltb-true e i (sym (ap (λ x. refers_below x i) is) ∙ shape_below)
-
-  pub parts_below : (a b : ℕ) → row.shape ≡ Sequence a b → (a < i) × (b < i)
-  parts_below a b is = let p = and_parts _ _ (sym (ap (λ x. refers_below x i) is) ∙ shape_below) in (ltb-true a i p.0, ltb-true b i p.1)
-
-  pub kind_beyond : (j : ℕ) → row.size ≤ j → None ≡ kind_at (kinds_at t i) j
-  kind_beyond j h = sym (kind_past (kinds_at t i) j (omega (arith, size_at)))
-
-  -- the kind of cell j, by the shape
-  module _ (j : ℕ) (inside : j < row.size) where
-    pub scalar_kind : (k : Kind) → row.shape ≡ Scalar k → Some k ≡ kind_at (kinds_at t i) j
-    scalar_kind k is =
-        let r = row_is (Scalar k) is in
-        let first : j ≡ 0 = omega (arith, inside, size_at, ap length r) in
-        sym (ap (λ l. kind_at l j) r ∙ ap (kind_at (k ∷ [])) first)
-
-    pub array_kind : (n e m : ℕ) → row.shape ≡ Array n e → m ≡ length (kinds_at t e) → kind_at (kinds_at t e) (j % m) ≡ kind_at (kinds_at t i) j
-    array_kind n e m is size =
-        let r = row_is (Array n e) is in
-        let within_all : j < length (repeated n (kinds_at t e)) = omega (arith, inside, size_at, ap length r) in
-        ap (λ x. kind_at (kinds_at t e) (j % x)) size ∙ sym (kind_repeated n (kinds_at t e) j within_all) ∙ sym (ap (λ l. kind_at l j) r)
-
-    pub first_kind : (a b m : ℕ) → row.shape ≡ Sequence a b → m ≡ length (kinds_at t a) → j < m → kind_at (kinds_at t a) j ≡ kind_at (kinds_at t i) j
-    first_kind a b m is size left = sym (kind_left (kinds_at t a) (kinds_at t b) j (omega arith)) ∙ sym (ap (λ l. kind_at l j) (row_is (Sequence a b) is))
-
-    pub rest_kind : (a b m : ℕ) → row.shape ≡ Sequence a b → m ≡ length (kinds_at t a) → m ≤ j → kind_at (kinds_at t b) (j - m) ≡ kind_at (kinds_at t i) j
-    rest_kind a b m is size right =
-        ap (λ x. kind_at (kinds_at t b) (j - x)) size ∙ sym (kind_right (kinds_at t a) (kinds_at t b) j (omega arith)) ∙ sym (ap (λ l. kind_at l j) (row_is (Sequence a b) is))
-
--- the size that is found at a place
-pub size_found : {P : Bor Measured → Type 0} (t : Shapes) (i r : ℕ) (rows : List Measured) → rows ≡ vec_items t.rows → (found : Option (Bor Measured)) → IsItemAt rows i found → MatchOption found (r ≡ 0) P → ((x : Bor Measured) → P x → r ≡ x.now.size) → r ≡ length (kinds_at t i)
-size_found t i r rows same None item e read =
-    let past : length (rows_of (shapes_in t)) ≤ i = omega (arith, item.3, ap length same, length-rows_from [] (shapes_in t), length-map (vec_items t.rows) (λ m. m.shape)) in
-    e ∙ sym (ap length (get_or_past (rows_of (shapes_in t)) i [] past))
-size_found t i r rows same (Some x) item e read = read x e ∙ size_at t i x.now (row_found t i rows same x item)
+-- the row that is found at a place
+module _ (t : Inside) (held : Held t) (ss : List Shape) (same : shapes_of t.rows.items ≡ ss) (i : ℕ) (rows : List Measured) (e : rows ≡ t.rows.items) where
+  pub row_found : (row : Option (Bor Measured)) → IsItemAt rows i row → IfSome row (λ r. RowAt ss i r.now)
+  row_found None item = tt
+  row_found (Some r) item =
+      let row = r.now in
+      let read : row ≡ get_or t.rows.items i row = item.1 ∙ ap (λ l. get_or l i row) e in
+      let within : i < length t.rows.items = omega (arith, item.3.0, ap length e) in
+      let inside : i < length (shapes_of t.rows.items) = omega (arith, within, length-map t.rows.items (λ m. m.shape)) in
+      let shape : row.shape ≡ get_or (shapes_of t.rows.items) i row.shape = ap (λ m. m.shape) read ∙ sym (get_or-map (λ m. m.shape) t.rows.items i row row.shape within) in
+      let below : refers_below row.shape i ≡ true = ap (λ x. refers_below x i) (get_or_read (shapes_of t.rows.items) i row.shape inside shape (Scalar Char)) ∙ held.below i in
+      rw (← same) (record {
+        kinds = row_at (shapes_of t.rows.items) i row.shape inside shape below;
+        size = ap (λ m. m.size) read ∙ sym (get_or-map (λ m. m.size) t.rows.items i row 0 within) ∙ ap (λ l. get_or l i 0) held.sized ∙ length_at (rows_of (shapes_of t.rows.items)) i;
+        below = below;
+      })
 
 pub measured_some : (m n : ℕ) → Some m ≡ measured n → m ≡ n
 measured_some m n e = grind (arith, nat_tests)

@@ -1,4 +1,5 @@
 pub mod Forms
 pub mod Rows
+pub mod Held
 pub mod Tables
 pub mod Laid

@@ -1,14 +1,16 @@
 -- What a table of shapes holds. Assumes nothing.
-use Rattle.std.specs.Prelude.{ℕ, List, [], vec_items, slice_index_or}
+use Rattle.std.specs.Prelude.{◌≡◌, ℕ, true, List, [], length, slice_index_or}
 use Rattle.value.specs.declared.kinds.Kind.{Kind}
-use Rattle.shapes.specs.Forms.{rows_of}
-use Rattle.shapes.specs.Rows.{shapes_of}
+use Rattle.shapes.specs.Forms.{kinds_of, refers_below, rows_of}
 use Rattle.shapes.specs.declared.forms.Shape.{Shape}
-use Rattle.shapes.specs.declared.tables.Shapes.{Shapes}
-
-abbrev pub shapes_in : Shapes → List Shape
-shapes_in t = shapes_of (vec_items t.rows)
+use Rattle.shapes.specs.declared.tables.measured.Measured.{Measured}
 
 -- the kinds of the shape at a place; none where there is no shape
-abbrev pub kinds_at : Shapes → ℕ → List Kind
-kinds_at t i = slice_index_or (rows_of (shapes_in t)) i []
+abbrev pub kinds_at : List Shape → ℕ → List Kind
+kinds_at ss i = slice_index_or (rows_of ss) i []
+
+-- what a row says of the shape at its place
+pub record RowAt (ss : List Shape) (place : ℕ) (row : Measured) : Type 0 where
+  pub kinds : kinds_at ss place ≡ kinds_of (rows_of ss) row.shape
+  pub size : row.size ≡ length (kinds_at ss place)
+  pub below : refers_below row.shape place ≡ true

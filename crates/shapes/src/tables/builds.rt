@@ -1,6 +1,6 @@
-ghost use Rattle.std.specs.Prelude.{◌≡◌, ◌≤◌, [], length, IfOk};
+ghost use Rattle.std.specs.Prelude.{◌≡◌, ◌≤◌, [], length, IfNone, IfOk, IfSome};
 ghost use Rattle.shapes.specs.Forms.{Sizes, added, kinds_of, measured, rows_of};
-ghost use Rattle.shapes.specs.Tables.{kinds_at, shapes_in};
+ghost use Rattle.shapes.specs.Tables.{RowAt, kinds_at};
 
 use super::Shapes;
 use super::measured::Measured;
@@ -10,10 +10,18 @@ use std::alloc::{AllocError, Global};
 impl Shapes {
     // An empty table, with room for 2,000 shapes.
     pub fn new(heap: Global) -> Result<Shapes, AllocError>
-        ensures { IfOk result (λ t. shapes_in t ≡ []) }
+        ensures { IfOk result (λ t. t ≡ []) }
     {
         let rows = Vec::with_capacity(heap, 2000)?;
         Ok(Shapes { rows })
+    }
+
+    // The row at a place.
+    pub(super) fn row(&self, place: usize) -> Option<&Measured>
+        ensures some { IfSome result (λ row. RowAt self.now place row.now) }
+        ensures none { IfNone result (kinds_at self.now place ≡ []) }
+    {
+        self.rows.get(place)
     }
 
     // How many cells the shape at a place has; 0 where there is none.
@@ -23,12 +31,12 @@ impl Shapes {
         ensures small { result ≤ 1024 }
         ensures sizes { Sizes }
     {
-        self.rows.get(place).map_or(0, |row| row.size)
+        self.row(place).map_or(0, |row| row.size)
     }
 
     // How many cells a shape has, if that is 1 to 1,024.
     fn size_of(&self, shape: Shape) -> Option<usize>
-        ensures { result ≡ measured (length (kinds_of (rows_of (shapes_in self.now)) shape)) }
+        ensures { result ≡ measured (length (kinds_of (rows_of self.now) shape)) }
     {
         let size = match shape {
             Shape::Scalar(_) => 1,
@@ -41,8 +49,8 @@ impl Shapes {
     // Adds a shape, and tells its place; nothing where the table is full, where the shape names one that is not in it, or where it has
     // no cell or over 1,024.
     pub fn add(&mut self, shape: Shape) -> Option<usize>
-        ensures result { result ≡ (added shape (shapes_in self.old)).0 }
-        ensures after { shapes_in self.new ≡ (added shape (shapes_in self.old)).1 }
+        ensures result { result ≡ (added shape self.old).0 }
+        ensures after { self.new ≡ (added shape self.old).1 }
     {
         let place = self.rows.len();
         if place >= 2000 || !refers_below(shape, place) {
