@@ -1,6 +1,7 @@
 -- The rows of a table of shapes. Assumes nothing.
 use Rattle.std.proofs.Common.{◌≡◌, ℕ, zero, suc, ◌+◌, ◌-◌, ◌*◌, ◌%◌, ◌<◌, ◌≤◌, true, List, [], ◌∷◌, ◌++◌, map, length, get_or, take, drop, Some, None, Option, Bor, sym, refl, ap, ◌∙◌, inl, inr, ⊎_elim, mod-eq_of_lt, zero-mul, arith}
 use native.Mathlib.Nat.{add-mod_right}
+use Rattle.std.proofs.Math.ListN.{get_or-map as get_or-map_all}
 use Rattle.std.proofs.lemmas.List.{get_or_at, get_or_read, get_or_append_left, get_or_past, get_or_push, length-map, get_or-map, map_push, length-append, length_push, length-take-le, drop_more, take-append-drop}
 use Rattle.std.proofs.lemmas.Bool.{and_parts, ltb-true, cases_lt}
 use Rattle.std.specs.Prelude.{IfSome}
@@ -12,7 +13,7 @@ use Rattle.shapes.specs.Forms.{Sizes, kinds_of, measured, refers_below, repeated
 use Rattle.shapes.specs.Rows.{shapes_of, sizes_of}
 use Rattle.shapes.specs.declared.forms.Shape.{Shape}
 use Rattle.shapes.specs.Held.{Held}
-use Rattle.shapes.specs.Tables.{RowAt}
+use Rattle.shapes.specs.Tables.{IsTable, RowAt}
 use Rattle.shapes.specs.declared.tables.measured.Measured.{Measured}
 use Rattle.shapes.specs.declared.tables.Shapes.TheInside.{Inside}
 use Rattle.std.proofs.lemmas.Bool.Decides.{nat_tests}
@@ -91,12 +92,6 @@ kind_repeated (suc n) ks i h =
     kind_right ks (repeated n ks) i right ∙ kind_repeated n ks (i - length ks) below ∙ ap (kind_at ks) back)
     (cases_lt i (length ks))
 
--- sizes are the lengths of rows
-pub length_at : (rows : List (List Kind)) (i : ℕ) → get_or (map length rows) i 0 ≡ length (get_or rows i [])
-length_at [] i = refl
-length_at (r ∷ rows) zero = refl
-length_at (r ∷ rows) (suc i) = length_at rows i
-
 pushed_below : (ss : List Shape) (s : Shape) → ((k : ℕ) → refers_below (get_or ss k (Scalar Char)) k ≡ true) → refers_below s (length ss) ≡ true → (k : ℕ) → refers_below (get_or (ss ++ s ∷ []) k (Scalar Char)) k ≡ true
 pushed_below ss s f last k = elim (cases_lt k (length ss)) [
   | inl before ↦ rw get_or_append_left (f k)
@@ -120,6 +115,23 @@ module _ (rows rows' : List Measured) (m : Measured) (more : rows' ≡ rows ++ m
   pub below_more : ((k : ℕ) → refers_below (get_or (shapes_of rows) k (Scalar Char)) k ≡ true) → refers_below m.shape (length rows) ≡ true → (k : ℕ) → refers_below (get_or (shapes_of rows') k (Scalar Char)) k ≡ true
   below_more f last k = rw shapes_more (pushed_below (shapes_of rows) m.shape f (rw length-map last) k)
 
+-- each row has a cell
+some_cells : (rows : List Measured) (k : ℕ) → k < length rows → 1 ≤ get_or (sizes_of rows) k 0
+some_cells [] k h = absurd (omega arith)
+some_cells (m ∷ rows) zero h = m.some
+some_cells (m ∷ rows) (suc k) h = some_cells rows k (omega arith)
+
+-- what the invariant says of the shapes
+pub table_of : (t : Inside) → Held t → (ss : List Shape) → shapes_of t.rows.items ≡ ss → IsTable ss
+table_of t held ss same =
+    let rows = t.rows.items in
+    let long = length-map rows (λ m. m.shape) in
+    rw (← same) (record {
+      few = omega (arith, held.few, long, t.rows.ok.0);
+      below = held.below;
+      some = λ k h. omega (arith, some_cells rows k (omega (arith, h, long)), ap (λ l. get_or l k 0) held.sized, get_or-map_all length (rows_of (shapes_of rows)) k []);
+    })
+
 -- the row that is found at a place
 module _ (t : Inside) (held : Held t) (ss : List Shape) (same : shapes_of t.rows.items ≡ ss) (i : ℕ) (rows : List Measured) (e : rows ≡ t.rows.items) where
   pub row_found : (row : Option (Bor Measured)) → IsItemAt rows i row → IfSome row (λ r. RowAt ss i r.now)
@@ -133,7 +145,7 @@ module _ (t : Inside) (held : Held t) (ss : List Shape) (same : shapes_of t.rows
       let below : refers_below row.shape i ≡ true = ap (λ x. refers_below x i) (get_or_read (shapes_of t.rows.items) i row.shape inside shape (Scalar Char)) ∙ held.below i in
       rw (← same) (record {
         kinds = row_at (shapes_of t.rows.items) i row.shape inside shape below;
-        size = ap (λ m. m.size) read ∙ sym (get_or-map (λ m. m.size) t.rows.items i row 0 within) ∙ ap (λ l. get_or l i 0) held.sized ∙ length_at (rows_of (shapes_of t.rows.items)) i;
+        size = ap (λ m. m.size) read ∙ sym (get_or-map (λ m. m.size) t.rows.items i row 0 within) ∙ ap (λ l. get_or l i 0) held.sized ∙ get_or-map_all length (rows_of (shapes_of t.rows.items)) i [];
         below = below;
       })
 

@@ -1,6 +1,6 @@
 ghost use Rattle.std.specs.Prelude.{◌≡◌, ◌≤◌, [], length, IfNone, IfOk, IfSome};
 ghost use Rattle.shapes.specs.Forms.{Sizes, added, kinds_of, measured, rows_of};
-ghost use Rattle.shapes.specs.Tables.{RowAt, kinds_at};
+ghost use Rattle.shapes.specs.Tables.{IsTable, RowAt, kinds_at};
 
 use super::Shapes;
 use super::measured::Measured;
@@ -20,15 +20,18 @@ impl Shapes {
     pub(super) fn row(&self, place: usize) -> Option<&Measured>
         ensures some { IfSome result (λ row. RowAt self.now place row.now) }
         ensures none { IfNone result (kinds_at self.now place ≡ []) }
+        ensures table { IsTable self.now }
     {
         self.rows.get(place)
     }
 
-    // How many cells the shape at a place has; 0 where there is none.
+    // How many cells the shape at a place has; 0 where there is none. A caller sees the shapes alone, so `table` states what the invariant
+    // says of them.
     #[tactic(auto, using(crate::proofs::Rowed::sizes_hold))]
     pub fn size(&self, place: usize) -> usize
         ensures value { result ≡ length (kinds_at self.now place) }
         ensures small { result ≤ 1024 }
+        ensures table { IsTable self.now }
         ensures sizes { Sizes }
     {
         self.row(place).map_or(0, |row| row.size)
