@@ -6,10 +6,10 @@
 #![tactic(auto)]
 
 use cells::stores::Store;
-use reason::causes::Cause;
 use shapes::forms::Shape;
 use shapes::tables::Shapes;
 use std::alloc::{AllocError, Global};
+use std::fmt::Display;
 use value::binary::evaluate;
 use value::kinds::Kind;
 use value::unary::cast;
@@ -55,10 +55,10 @@ impl Memory {
                 show(rt, cast(operand, kind))
             }
             Some("new") => self.block(rt, number(words.next())),
-            Some("del") => match self.store.delete(number(words.next())) {
-                Ok(()) => Ok(println!(rt; "done")?),
-                Err(stop) => tell(rt, stop),
-            },
+            Some("del") => {
+                let done = self.store.delete(number(words.next()));
+                show(rt, done.map(|()| "done"))
+            }
             _ => Ok(println!(rt; "?")?),
         }
     }
@@ -68,12 +68,9 @@ impl Memory {
         let count = size.rem_euclid(2048) as usize;
         let array = Shape::Array { count, element: 0 };
         let place = self.shapes.add(array);
-        let Some(layout) = place.and_then(|i| self.shapes.laid(i)) else {
-            return Ok(println!(rt; "no such shape")?);
-        };
-        match self.store.new_block(&layout) {
-            Ok(address) => Ok(println!(rt; "{address}")?),
-            Err(stop) => tell(rt, stop),
+        match place.and_then(|i| self.shapes.laid(i)) {
+            Some(layout) => show(rt, self.store.new_block(&layout)),
+            None => Ok(println!(rt; "no such shape")?),
         }
     }
 }
@@ -104,23 +101,11 @@ fn value_of(kind: Option<Kind>, n: i64) -> Value {
     }
 }
 
-fn tell(rt: &HostRuntime, stop: Stop) -> anyhow::Result<()> {
-    match stop {
-        Stop::Fault(fault) => {
-            let number = fault.number();
-            Ok(println!(rt; "fault {number}")?)
-        }
-        Stop::Misfit => Ok(println!(rt; "misfit")?),
-    }
-}
-
-fn show(rt: &HostRuntime, given: Result<Value, Stop>) -> anyhow::Result<()> {
+// What is given, or why nothing is.
+fn show<T: Display + Drop>(rt: &HostRuntime, given: Result<T, Stop>) -> anyhow::Result<()> {
     match given {
-        Ok(Value::Nothing) => Ok(println!(rt; "none")?),
-        Ok(Value::Char(c)) => Ok(println!(rt; "char {c}")?),
-        Ok(Value::Int(n)) => Ok(println!(rt; "int {n}")?),
-        Ok(Value::Bool(b)) => Ok(println!(rt; "bool {b}")?),
-        Ok(Value::Pointer(n)) => Ok(println!(rt; "pointer {n}")?),
-        Err(stop) => tell(rt, stop),
+        Ok(value) => println!(rt; "{value}")?,
+        Err(stop) => println!(rt; "{stop}")?,
     }
+    Ok(())
 }
