@@ -10,7 +10,7 @@ fn findings(rt: HostRuntime) -> Result<(), Fail> {
     for n in 0..32 {
         assert_eq!(rt; findings.add(n), Ok(()));
     }
-    assert_eq!(rt; findings.add(32), Err(Stop::Fault(RunFault::FindingsFull)));
+    assert_eq!(rt; findings.add(32), Err(RunFault::FindingsFull.into()));
     assert_eq!(rt;
         (findings.count(), findings.get(31), findings.get(32)),
         (32, Some(31), None)
@@ -21,11 +21,11 @@ fn findings(rt: HostRuntime) -> Result<(), Fail> {
 #[test]
 fn requests(rt: HostRuntime) {
     let mut request = Request::new();
-    assert_eq!(rt; request.put(-1), Err(Stop::Fault(RunFault::RequestByte)));
-    assert_eq!(rt; request.put(256), Err(Stop::Fault(RunFault::RequestByte)));
+    assert_eq!(rt; request.put(-1), Err(RunFault::RequestByte.into()));
+    assert_eq!(rt; request.put(256), Err(RunFault::RequestByte.into()));
     for n in 249..256 {
         assert_eq!(rt; request.put(n), Ok(()));
     }
-    assert_eq!(rt; request.put(0), Err(Stop::Fault(RunFault::RequestByte)));
+    assert_eq!(rt; request.put(0), Err(RunFault::RequestByte.into()));
     assert!(rt; request.as_slice() == &[249, 250, 251, 252, 253, 254, 255][..]);
 }

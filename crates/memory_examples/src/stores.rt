@@ -10,22 +10,13 @@ use value::values::{Stop, Value};
 fn a_variable_is_laid_written_and_given_up(rt: HostRuntime) -> Result<(), Fail> {
     let mut store = Store::new(rt.alloc())?;
     assert_eq!(rt; store.lay(&Kind::Int), Ok(1));
-    assert_eq!(rt;
-        store.read(1, Kind::Int),
-        Err(Stop::Fault(RunFault::Unwritten))
-    );
-    assert_eq!(rt;
-        store.read(1, Kind::Char),
-        Err(Stop::Fault(RunFault::NoCell))
-    );
+    assert_eq!(rt; store.read(1, Kind::Int), Err(RunFault::Unwritten.into()));
+    assert_eq!(rt; store.read(1, Kind::Char), Err(RunFault::NoCell.into()));
     assert_eq!(rt; store.write(1, Value::Int(7)), Ok(()));
     assert_eq!(rt; store.lay_value(Value::Char(65)), Ok(2));
     assert_eq!(rt; store.read(2, Kind::Char), Ok(Value::Char(65)));
     store.give_up(1);
-    assert_eq!(rt;
-        store.read(2, Kind::Char),
-        Err(Stop::Fault(RunFault::NoCell))
-    );
+    assert_eq!(rt; store.read(2, Kind::Char), Err(RunFault::NoCell.into()));
     assert_eq!(rt; store.read(1, Kind::Int), Ok(Value::Int(7)));
     Ok(())
 }
@@ -37,16 +28,13 @@ fn stray_addresses(rt: HostRuntime) -> Result<(), Fail> {
     for address in [0, -1, i64::MIN, 1, 1025, 2049, i64::MAX] {
         assert_eq!(rt;
             store.read(address, Kind::Int),
-            Err(Stop::Fault(RunFault::NoCell))
+            Err(RunFault::NoCell.into())
         );
         assert_eq!(rt;
             store.write(address, Value::Int(1)),
-            Err(Stop::Fault(RunFault::NoCell))
+            Err(RunFault::NoCell.into())
         );
-        assert_eq!(rt;
-            store.delete(address),
-            Err(Stop::Fault(RunFault::NotABlock))
-        );
+        assert_eq!(rt; store.delete(address), Err(RunFault::NotABlock.into()));
     }
     assert_eq!(rt; store.write(1, Value::Nothing), Err(Stop::Misfit));
     Ok(())
@@ -58,11 +46,11 @@ fn blocks_of_new(rt: HostRuntime) -> Result<(), Fail> {
     assert_eq!(rt; store.new_block(&Kind::Int), Ok(1025));
     assert_eq!(rt; store.new_block(&Kind::Bool), Ok(1026));
     assert_eq!(rt; store.delete(1025), Ok(()));
-    assert_eq!(rt; store.delete(1025), Err(Stop::Fault(RunFault::NotABlock)));
+    assert_eq!(rt; store.delete(1025), Err(RunFault::NotABlock.into()));
     assert_eq!(rt; store.new_block(&Kind::Pointer), Ok(1025));
     assert_eq!(rt;
         store.read(1025, Kind::Pointer),
-        Err(Stop::Fault(RunFault::Unwritten))
+        Err(RunFault::Unwritten.into())
     );
     Ok(())
 }
@@ -90,10 +78,8 @@ fn shapes_of_types(rt: HostRuntime) -> Result<(), Fail> {
     assert_eq!(rt; shapes.add(Shape::Sequence { first: 2, rest: 0 }), None);
     assert_eq!(rt; shapes.size(2), 1024);
     let mut store = Store::new(rt.alloc())?;
-    let Some(layout) = shapes.laid(2) else {
-        return Err(Fail::new("no layout"));
-    };
+    let layout = shapes.laid(2).ok_or("no layout")?;
     assert_eq!(rt; store.lay(&layout), Ok(1));
-    assert_eq!(rt; store.lay(&layout), Err(Stop::Fault(RunFault::StackFull)));
+    assert_eq!(rt; store.lay(&layout), Err(RunFault::StackFull.into()));
     Ok(())
 }
