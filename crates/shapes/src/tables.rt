@@ -1,5 +1,3 @@
-ghost use Rattle.std.specs.Prelude.{◌≡◌};
-
 use crate::forms::Shape;
 use measured::Measured;
 use std::marker::Model;
