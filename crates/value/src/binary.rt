@@ -1,4 +1,4 @@
-ghost use Rattle.std.specs.Prelude.{◌≡◌, ◌≤◌};
+ghost use Rattle.std.specs.Prelude.{◌≡◌};
 ghost use Rattle.value.specs.Laws.{Dividing};
 ghost use Rattle.value.specs.Binary.{arithmetic, comparison, connective, divided, equality, evaluated, numbers_of};
 
@@ -32,36 +32,24 @@ fn divide(left: i64, right: i64) -> Result<(i64, i64), Stop>
 
 // `|` and `&`, both of whose sides are worked out already.
 fn connect(code: u8, left: Value, right: Value) -> Result<Value, Stop>
-    requires from { 1 ≤ code }
-    requires to { code ≤ 2 }
     ensures { result ≡ connective code left right }
 {
-    match (code, left, right) {
-        (1, Value::Bool(a), Value::Bool(b)) => Ok(Value::Bool(a || b)),
-        (2, Value::Bool(a), Value::Bool(b)) => Ok(Value::Bool(a && b)),
-        _ => Err(Stop::Misfit),
-    }
+    let (Value::Bool(a), Value::Bool(b)) = (left, right) else {
+        return Err(Stop::Misfit);
+    };
+    Ok(Value::Bool(if code == 1 { a || b } else { a && b }))
 }
 
 // `==` and `!=`.
 fn equate(code: u8, left: Value, right: Value) -> Result<Value, Stop>
-    requires from { 3 ≤ code }
-    requires to { code ≤ 4 }
     ensures { result ≡ equality code left right }
 {
     let (a, b) = numbers(left, right)?;
-    let holds = match code {
-        3 => a == b,
-        4 => a != b,
-        _ => unreachable!(),
-    };
-    Ok(Value::Bool(holds))
+    Ok(Value::Bool(if code == 3 { a == b } else { a != b }))
 }
 
 // `<`, `>`, `<=` and `>=`, which bools do not have.
 fn order(code: u8, left: Value, right: Value) -> Result<Value, Stop>
-    requires from { 5 ≤ code }
-    requires to { code ≤ 8 }
     ensures { result ≡ comparison code left right }
 {
     if matches!(left, Value::Bool(_)) {
@@ -72,8 +60,7 @@ fn order(code: u8, left: Value, right: Value) -> Result<Value, Stop>
         5 => a < b,
         6 => a > b,
         7 => a <= b,
-        8 => a >= b,
-        _ => unreachable!(),
+        _ => a >= b,
     };
     Ok(Value::Bool(holds))
 }
@@ -81,8 +68,6 @@ fn order(code: u8, left: Value, right: Value) -> Result<Value, Stop>
 // `*`, `/`, `%`, `+` and `-`, wrapping at 64 bits.
 #[tactic(auto, using(std::proofs::lemmas::Int::wraps))]
 fn compute(code: u8, left: Value, right: Value) -> Result<Value, Stop>
-    requires from { 9 ≤ code }
-    requires to { code ≤ 13 }
     ensures { result ≡ arithmetic code left right }
 {
     let (Value::Int(a), Value::Int(b)) = (left, right) else {
@@ -93,8 +78,7 @@ fn compute(code: u8, left: Value, right: Value) -> Result<Value, Stop>
         10 => divide(a, b)?.0,
         11 => divide(a, b)?.1,
         12 => a.wrapping_add(b),
-        13 => a.wrapping_sub(b),
-        _ => unreachable!(),
+        _ => a.wrapping_sub(b),
     };
     Ok(Value::Int(number))
 }
