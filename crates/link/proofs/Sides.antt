@@ -4,21 +4,15 @@ use Rattle.std.specs.Bool.{then_some}
 use Rattle.std.specs.Option.{option_or}
 use Rattle.std.proofs.lemmas.Slice.Eq.{bytes_eq-Decides}
 use Rattle.link.specs.Cars.{Answer, silence, reply, Car, after, reply_of, Alike}
-use Rattle.link.specs.Visits.{answers, after_all, last_reply, same_answer, or_else, unless, first_difference, Differs}
+use Rattle.link.specs.Visits.{answers, after_all, last_reply, same_answer, first_difference, Differs}
 
--- the first of two by the library's words
-or_else_is : (first : Option ℕ) (same : Bool) (k : ℕ) → option_or first (then_some (not same) k) ≡ or_else first (unless same k)
-or_else_is (Some x) same k = refl
-or_else_is None true k = refl
-or_else_is None false k = refl
+first_assoc : (a b c : Option ℕ) → option_or (option_or a b) c ≡ option_or a (option_or b c)
+first_assoc None b c = refl
+first_assoc (Some x) b c = refl
 
-or_else_assoc : (a b c : Option ℕ) → or_else (or_else a b) c ≡ or_else a (or_else b c)
-or_else_assoc None b c = refl
-or_else_assoc (Some x) b c = refl
-
-or_else_none : (a : Option ℕ) → or_else a None ≡ a
-or_else_none None = refl
-or_else_none (Some x) = refl
+first_none : (a : Option ℕ) → option_or a None ≡ a
+first_none None = refl
+first_none (Some x) = refl
 
 -- one request more, of those that are left
 module _ (qs rest : List (List ℕ)) (q : List ℕ) (is : qs ≡ q ∷ rest) where
@@ -29,13 +23,13 @@ module _ (qs rest : List (List ℕ)) (q : List ℕ) (is : qs ≡ q ∷ rest) whe
   reply_more car car' p p' next shown = (λ k. last_reply (shown k) (next k) rest) ∙ sym (ap (last_reply p car) is)
 
   pub first_more : (k : ℕ) (l l' r r' : Car) (first first' : Option ℕ) (same : Bool) → l' ≡ after q l → r' ≡ after q r → same ≡ same_answer (l [] q) (r [] q) → first' ≡ option_or first (then_some (not same) k) →
-      or_else first' (first_difference (k + 1) l' r' rest) ≡ or_else first (first_difference k l r qs)
+      option_or first' (first_difference (k + 1) l' r' rest) ≡ option_or first (first_difference k l r qs)
   first_more k l l' r r' first first' same nl nr s f =
       let later = first_difference (k + 1) (after q l) (after q r) rest in
-      (λ t. or_else ((f ∙ or_else_is first same k) t) (first_difference (k + 1) (nl t) (nr t) rest))
-      ∙ or_else_assoc first (unless same k) later
-      ∙ ap (λ b. or_else first (or_else (unless b k) later)) s
-      ∙ sym (ap (λ xs. or_else first (first_difference k l r xs)) is)
+      (λ t. option_or (f t) (first_difference (k + 1) (nl t) (nr t) rest))
+      ∙ first_assoc first (then_some (not same) k) later
+      ∙ ap (λ b. option_or first (option_or (then_some (not b) k) later)) s
+      ∙ sym (ap (λ xs. option_or first (first_difference k l r xs)) is)
 
 -- none is left
 module _ (qs : List (List ℕ)) (none : qs ≡ []) where
@@ -45,8 +39,8 @@ module _ (qs : List (List ℕ)) (none : qs ≡ []) where
   pub reply_end : (p : List ℕ) (car : Car) → last_reply p car qs ≡ p
   reply_end p car = ap (last_reply p car) none
 
-  pub first_end : (k : ℕ) (l r : Car) (first : Option ℕ) → or_else first (first_difference k l r qs) ≡ first
-  first_end k l r first = ap (λ xs. or_else first (first_difference k l r xs)) none ∙ or_else_none first
+  pub first_end : (k : ℕ) (l r : Car) (first : Option ℕ) → option_or first (first_difference k l r qs) ≡ first
+  first_end k l r first = ap (λ xs. option_or first (first_difference k l r xs)) none ∙ first_none first
 
 same_refl : (a : Answer) → same_answer a a ≡ true
 same_refl silence = refl
@@ -63,7 +57,7 @@ pub alike_never_differ : (k : ℕ) (l r : Car) (qs : List (List ℕ)) → ((earl
 alike_never_differ k l r [] cars = refl
 alike_never_differ k l r (q ∷ qs) cars =
     let same : same_answer (l [] q) (r [] q) ≡ true = ap (same_answer (l [] q)) (sym (cars [] q)) ∙ same_refl (l [] q) in
-    ap (λ b. or_else (unless b k) (first_difference (k + 1) (after q l) (after q r) qs)) same
+    ap (λ b. option_or (then_some (not b) k) (first_difference (k + 1) (after q l) (after q r) qs)) same
     ∙ alike_never_differ (k + 1) (after q l) (after q r) qs (λ earlier last. cars (q ∷ earlier) last)
 
 pub alike_after : (l r : Car) (p s : List ℕ) (qs : List (List ℕ)) → Alike l p r s → Alike (after_all l qs) (last_reply p l qs) (after_all r qs) (last_reply s r qs)
@@ -98,7 +92,7 @@ differs_here k a b xs ys ne =
       subst (λ n. get_or (a ∷ xs) n silence ≡ get_or (b ∷ ys) n silence → ⊥) (sym m) ne,
     )
 
-differs_by : (k : ℕ) (a b : Answer) (xs ys : List Answer) (o : Option ℕ) (same : Bool) → same_answer a b ≡ same → Differs (k + 1) xs ys o → Differs k (a ∷ xs) (b ∷ ys) (or_else (unless same k) o)
+differs_by : (k : ℕ) (a b : Answer) (xs ys : List Answer) (o : Option ℕ) (same : Bool) → same_answer a b ≡ same → Differs (k + 1) xs ys o → Differs k (a ∷ xs) (b ∷ ys) (option_or (then_some (not same) k) o)
 differs_by k a b xs ys o true e d = differs_later k a b xs ys o (same_true a b e) d
 differs_by k a b xs ys o false e d =
     differs_here k a b xs ys (λ is. let t : same_answer a b ≡ true = ap (same_answer a) (sym is) ∙ same_refl a in cc)

@@ -1,5 +1,7 @@
 -- A visit: requests sent one after the other. Assumes nothing.
-use Rattle.std.specs.Prelude.{◌≡◌, ℕ, ◌+◌, ◌-◌, ◌<◌, ◌≤◌, Bool, true, false, List, [], ◌∷◌, length, take, Some, None, Option, ◌≢◌, slice_index_or}
+use Rattle.std.specs.Prelude.{◌≡◌, ℕ, ◌+◌, ◌-◌, ◌<◌, ◌≤◌, Bool, true, false, not, List, [], ◌∷◌, length, take, Some, None, Option, ◌≢◌, slice_index_or}
+use Rattle.std.specs.Bool.{then_some}
+use Rattle.std.specs.Option.{option_or}
 use Rattle.std.specs.Str.{bytes_eq}
 use Rattle.link.specs.Cars.{Answer, silence, reply, Car, after, reply_of}
 
@@ -24,20 +26,10 @@ same_answer silence (reply b) = false
 same_answer (reply a) silence = false
 same_answer (reply a) (reply b) = bytes_eq a b
 
--- the first of two that is there
-abbrev pub or_else : Option ℕ → Option ℕ → Option ℕ
-or_else None later = later
-or_else (Some k) later = Some k
-
--- k where something differs
-abbrev pub unless : Bool → ℕ → Option ℕ
-unless true k = None
-unless false k = Some k
-
 -- the first request, counted from k, that gets another answer on the right than on the left
 abbrev pub first_difference : ℕ → Car → Car → List (List ℕ) → Option ℕ
 first_difference k left right [] = None
-first_difference k left right (q ∷ qs) = or_else (unless (same_answer (left [] q) (right [] q)) k) (first_difference (k + 1) (after q left) (after q right) qs)
+first_difference k left right (q ∷ qs) = option_or (then_some (not (same_answer (left [] q) (right [] q))) k) (first_difference (k + 1) (after q left) (after q right) qs)
 
 -- requests are counted from k: nothing differs where all answers are the same; where request j differs, the answers before it are the same, and those to it are not
 abbrev pub Differs : ℕ → List Answer → List Answer → Option ℕ → Type 0
