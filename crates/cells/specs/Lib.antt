@@ -5,6 +5,6 @@ pub mod Fits
 pub mod Memory
 pub mod Views
 pub mod Findings
-pub mod Found
+pub mod Held
 pub mod Requests
 pub mod Laws

@@ -1,4 +1,4 @@
-ghost use Rattle.std.specs.Prelude.{◌≤◌, vec_len, vec_capacity};
+use std::marker::Model;
 
 pub mod listed;
 
@@ -6,6 +6,17 @@ pub mod listed;
 #[derive(Drop)]
 pub struct Findings {
     numbers: Vec<i64>,
-    ghost few: { vec_len numbers ≤ 32 },
-    ghost room: { 32 ≤ vec_capacity numbers },
+}
+
+// Clauses see the numbers.
+impl Model for Findings {
+    ghost use Rattle.std.specs.Prelude.{List, ℤ};
+
+    ghost Value = { List ℤ };
+
+    ghost use Rattle.cells.specs.Held.{Held};
+
+    ghost view = { λ f. f.numbers.items };
+
+    ghost invariant = { Held };
 }

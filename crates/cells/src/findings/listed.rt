@@ -1,6 +1,5 @@
-ghost use Rattle.std.specs.Prelude.{◌≡◌, [], length, IfOk};
+ghost use Rattle.std.specs.Prelude.{◌≡◌, ◌≤◌, [], length, IfOk};
 ghost use Rattle.cells.specs.Findings.{added, number_at};
-ghost use Rattle.cells.specs.Found.{numbers};
 
 use super::Findings;
 use reason::faults::RunFault;
@@ -9,7 +8,7 @@ use value::values::Stop;
 
 impl Findings {
     pub fn new(heap: Global) -> Result<Findings, AllocError>
-        ensures { IfOk result (λ f. numbers f ≡ []) }
+        ensures { IfOk result (λ f. f ≡ []) }
     {
         let numbers = Vec::with_capacity(heap, 32)?;
         Ok(Findings { numbers })
@@ -17,8 +16,8 @@ impl Findings {
 
     // One finding more; fault 39 where there are 32.
     pub fn add(&mut self, number: i64) -> Result<(), Stop>
-        ensures result { result ≡ (added number (numbers self.old)).0 }
-        ensures after { numbers self.new ≡ (added number (numbers self.old)).1 }
+        ensures result { result ≡ (added number self.old).0 }
+        ensures after { self.new ≡ (added number self.old).1 }
     {
         if self.numbers.len() >= 32 {
             return Err(RunFault::FindingsFull.into());
@@ -27,21 +26,23 @@ impl Findings {
         Ok(())
     }
 
+    // How many there are. A caller sees the numbers alone, so `few` states what the invariant says of them.
     pub fn count(&self) -> usize
-        ensures { result ≡ length (numbers self.now) }
+        ensures value { result ≡ length self.now }
+        ensures few { length self.now ≤ 32 }
     {
         self.numbers.len()
     }
 
     // Finding k, counted from 0; nothing from the count on.
     pub fn get(&self, k: usize) -> Option<i64>
-        ensures { result ≡ number_at (numbers self.now) k }
+        ensures { result ≡ number_at self.now k }
     {
         self.numbers.get(k).copied()
     }
 
     pub fn clear(&mut self)
-        ensures { numbers self.new ≡ [] }
+        ensures { self.new ≡ [] }
     {
         self.numbers.clear();
     }
