@@ -5,8 +5,7 @@ use Rattle.std.proofs.lemmas.Option.{get_or_from_slice_get, slice_get-get_or, sl
 use Rattle.value.specs.declared.kinds.Kind.TheVariants.{Char}
 use Rattle.value.specs.declared.kinds.Kind.{Kind}
 use Rattle.cells.specs.Layouts.{kind_at, fresh}
-use Rattle.cells.specs.Rows.{row_put}
-use Rattle.cells.specs.declared.cell.Cell.{Cell}
+use Rattle.cells.specs.Memory.{Memory, row_in, with_cells}
 use Rattle.cells.specs.declared.cell.Cell.TheVariants.{Unwritten}
 
 pub length-fresh : (ks : List Kind) → length (fresh ks) ≡ length ks
@@ -20,8 +19,8 @@ pub kind_there : (ks : List Kind) (i : ℕ) → i < length ks → None ≡ kind_
 kind_there ks i h e = let there = slice_get-get_or ks i Char h in cc
 
 -- one cell more comes to life
-pub revive_more : (cs cs' : List Cell) (at i : ℕ) (ks : List Kind) (k : Kind) → Some k ≡ kind_at ks i → cs' ≡ set cs (at + i) (Unwritten k) →
-    row_put cs' (at + (i + 1)) (fresh (drop (i + 1) ks)) ≡ row_put cs (at + i) (fresh (drop i ks))
-revive_more cs cs' at i ks k e p =
+pub revive_more : (m m' : Memory) (at i : ℕ) (ks : List Kind) (k : Kind) → Some k ≡ kind_at ks i → m' ≡ with_cells m (set m.cells (at + i) (Unwritten k)) →
+    row_in (at + (i + 1)) (fresh (drop (i + 1) ks)) m' ≡ row_in (at + i) (fresh (drop i ks)) m
+revive_more m m' at i ks k e p =
     let n : at + (i + 1) ≡ at + i + 1 = omega arith in
-    (λ t. row_put (p t) (n t) (fresh (drop (i + 1) ks))) ∙ sym (ap (λ l. row_put cs (at + i) (fresh l)) (kind_first ks i k e))
+    (λ t. row_in (n t) (fresh (drop (i + 1) ks)) (p t)) ∙ sym (ap (λ l. row_in (at + i) (fresh l) m) (kind_first ks i k e))

@@ -1,5 +1,5 @@
 -- The memory of a run: cells, how many of them variables use, and the blocks of `new`. Assumes nothing.
-use Rattle.std.specs.Prelude.{ℕ, ◌+◌, ◌-◌, min, cond, List, [], ◌∷◌, length, drop, replicate, ℤ, pos, Some, None, Ok, Err, Option, Result, nat_le, slice_index_or, slice_set}
+use Rattle.std.specs.Prelude.{◌≡◌, ℕ, ◌+◌, ◌-◌, ◌≤◌, min, cond, List, [], ◌∷◌, length, drop, replicate, ℤ, pos, Some, None, Ok, Err, Option, Result, nat_le, slice_index_or, slice_set}
 use Rattle.reason.specs.declared.faults.RunFault.TheVariants as runfault
 use Rattle.value.specs.Values.{kind_of}
 use Rattle.value.specs.declared.kinds.Kind.{Kind}
@@ -19,12 +19,22 @@ pub record Memory : Type 0 where
   -- at i the size of the block that begins at cell 1,025 + i, where one does
   pub blocks : List (Option ℕ)
 
+-- every store has 2,048 cells, uses at most 1,024 of them for variables, and may have a block at each of the others
+pub record IsMemory (m : Memory) : Type 0 where
+  pub cells : length m.cells ≡ 2048
+  pub used : m.used ≤ 1024
+  pub blocks : length m.blocks ≡ 1024
+
 -- every cell is dead
 abbrev pub empty : Memory
 empty = record { cells = replicate 2048 Dead; used = 0; blocks = replicate 1024 None }
 
 abbrev pub with_cells : Memory → List Cell → Memory
 with_cells m cs = record { cells = cs; used = m.used; blocks = m.blocks }
+
+-- with a row of cells put in from a place on
+abbrev pub row_in : ℕ → List Cell → Memory → Memory
+row_in at row m = with_cells m (row_put m.cells at row)
 
 -- an answer, and the memory then
 abbrev pub After : Type 0 → Type 0

@@ -7,4 +7,3 @@ mod fits;
 pub mod layouts;
 pub mod requests;
 pub mod stores;
-mod tables;

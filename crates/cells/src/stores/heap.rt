@@ -1,7 +1,6 @@
 ghost use Rattle.std.specs.Prelude.{◌≡◌, length, drop};
 ghost use Rattle.cells.specs.Laws.{Finds, LeavesVariables, Restores};
 ghost use Rattle.cells.specs.Memory.{deleted, new_block};
-ghost use Rattle.cells.specs.Views.{memory};
 
 use super::Store;
 use crate::cell::index_of;
@@ -13,32 +12,32 @@ use value::values::Stop;
 impl Store {
     // A block of `new`, in the lowest row of dead cells that is long enough; its first cell is told. Fault 34 where there is none.
     pub fn new_block<L: Layout>(&mut self, layout: &L) -> Result<i64, Stop>
-        ensures result { result ≡ (new_block (L.kinds layout.now) (memory self.old)).0 }
-        ensures after { memory self.new ≡ (new_block (L.kinds layout.now) (memory self.old)).1 }
-        ensures lowest { Finds (drop 1024 (memory self.old).cells) (length (L.kinds layout.now)) result }
-        ensures undone { Restores (memory self.old) result (memory self.new) }
-        ensures variables { LeavesVariables (memory self.old) (memory self.new) }
+        ensures result { result ≡ (new_block (L.kinds layout.now) self.old).0 }
+        ensures after { self.new ≡ (new_block (L.kinds layout.now) self.old).1 }
+        ensures lowest { Finds (drop 1024 self.old.cells) (length (L.kinds layout.now)) result }
+        ensures undone { Restores self.old result self.new }
+        ensures variables { LeavesVariables self.old self.new }
     {
         let size = layout.size();
-        if size > 1024 {
+        if size > self.blocks.len() {
             return Err(RunFault::HeapFull.into());
         }
-        let i = first_fit(self.table.heap(), size).ok_or(RunFault::HeapFull)?;
-        self.table.revive(1024 + i, layout);
+        let i = first_fit(self.heap(), size).ok_or(RunFault::HeapFull)?;
         self.blocks[i] = Some(size as u16);
+        self.revive(1024 + i, layout);
         Ok((1025 + i) as i64)
     }
 
     // The block of `new` that begins at an address dies. Fault 36 where none does.
     pub fn delete(&mut self, address: i64) -> Result<(), Stop>
-        ensures result { result ≡ (deleted address (memory self.old)).0 }
-        ensures after { memory self.new ≡ (deleted address (memory self.old)).1 }
-        ensures variables { LeavesVariables (memory self.old) (memory self.new) }
+        ensures result { result ≡ (deleted address self.old).0 }
+        ensures after { self.new ≡ (deleted address self.old).1 }
+        ensures variables { LeavesVariables self.old self.new }
     {
         let place = index_of(address).ok_or(RunFault::NotABlock)?;
         let i = place.checked_sub(1024).ok_or(RunFault::NotABlock)?;
         let size = self.blocks[i].take().ok_or(RunFault::NotABlock)?;
-        self.table.clear(place, usize::from(size));
+        self.clear(place, usize::from(size));
         Ok(())
     }
 }

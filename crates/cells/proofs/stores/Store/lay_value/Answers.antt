@@ -1,9 +1,6 @@
-use Rattle.std.proofs.Common.{drop, ap, ◌∙◌, arith}
+use Rattle.std.proofs.Common.{arith}
 use Rattle.std.proofs.lemmas.List.{drop-set-lt}
-use Rattle.cells.specs.Views.{cells_of}
 use Rattle.cells.proofs.stores.Store.lay_value.Goals as goal
 
 pub returns-clause-heap : goal.returns-clause-heap
-returns-clause-heap c =
-    let s = c.args.self.now in
-    ap (drop 1024) c.put.ensures ∙ drop-set-lt 1024 (cells_of s.table) s.used _ (omega arith)
+returns-clause-heap c = rw (c.put.ensures, ← c.self.view_is) (drop-set-lt 1024 _ c.self.inside.used _ (omega arith))

@@ -1,23 +1,24 @@
-use Rattle.std.proofs.Common.{◌≡◌, ◌+◌, ◌<◌, length, take, drop, pos, None, Some, Err, sym, refl, ap, ◌∙◌, subst, arith, rules, w64, to_z, vec_items}
+use Rattle.std.proofs.Common.{◌≡◌, ◌+◌, ◌<◌, length, get_or, drop, pos, None, Some, Err, sym, refl, ap, ◌∙◌, subst, arith, rules, w64, to_z}
 use Rattle.std.proofs.lemmas.Int.{to_z_pos}
 use Rattle.std.proofs.lemmas.List.{length-drop, get_or-set_same}
 use Rattle.reason.specs.declared.faults.RunFault.TheVariants.{HeapFull}
 use Rattle.value.specs.declared.values.Stop.TheVariants.{Fault}
 use Rattle.cells.specs.Laws.{Finds}
 use Rattle.cells.specs.Layouts.{fresh}
-use Rattle.cells.specs.Views.{cells_of}
+use Rattle.cells.specs.Rows.{row_put}
 use Rattle.cells.proofs.Found.{found_lowest}
 use Rattle.cells.proofs.Kept.{take-row_put}
 use Rattle.cells.proofs.Restored.{deleted_back}
 use Rattle.cells.proofs.Rows.{length-fresh}
 use Rattle.cells.proofs.stores.Store.new_block.Goals as goal
 
-pub returns-then-size-gt1024-clause-lowest : goal.returns-then-size-gt1024-clause-lowest
-returns-then-size-gt1024-clause-lowest g c = λ j r. omega (arith, r.0, length-drop 1024 (cells_of c.args.self.now.table))
+pub returns-then-size-len-clause-lowest : goal.returns-then-size-len-clause-lowest
+returns-then-size-len-clause-lowest g c =
+    λ j r. omega (arith, r.0, length-drop 1024 c.args.self.now.cells, ap (λ m. length m.cells) c.self.view_is, c.self.invariant.cells, c.self.invariant.blocks)
 
 pub returns-in_err-i-clause-lowest : goal.returns-in_err-i-clause-lowest
 returns-in_err-i-clause-lowest g c =
-    let heap = drop 1024 (cells_of c.args.self.now.table) in
+    let heap = drop 1024 c.args.self.now.cells in
     let n = length (g.L.Layout.kinds c.args.layout.now) in
     let refused : c.from_residual.result ≡ Err (Fault HeapFull) = search rules in
     subst (Finds heap n) (sym refused) (found_lowest heap _ n _ None (omega arith) c.heap.ensures.value c.size-size.ensures.value (sym c.in_err-i.ensures.ok_part ∙ c.first_fit.ensures.value))
@@ -31,17 +32,18 @@ returns-clause-lowest g c =
 
 pub returns-clause-undone : goal.returns-clause-undone
 returns-clause-undone g c =
-    let s = c.args.self.now in
+    let m = c.args.self.now in
     let row = fresh (g.L.Layout.kinds c.args.layout.now) in
     let i = c.in_ok-i.i in
     let within = rw c.in_ok-i.ensures.ok_part at c.first_fit.ensures.within in
     let low : i < 1024 = omega (arith, c.heap.ensures.long) in
     let address : to_z w64 (1025 + i) ≡ pos (1025 + i) = to_z_pos w64 (1025 + i) (omega arith) in
     let size : c.size-size.result ≡ length row = c.size-size.ensures.value ∙ sym (length-fresh (g.L.Layout.kinds c.args.layout.now)) in
-    let held = get_or-set_same (vec_items s.blocks) i (Some c.size-size.result) None (omega (arith, s.blocks.ok.0)) ∙ ap Some size in
-    let lowest = found_lowest (drop 1024 (cells_of s.table)) _ (length row) _ (Some i) (omega arith) c.heap.ensures.value size (sym c.in_ok-i.ensures.ok_part ∙ c.first_fit.ensures.value) in
-    deleted_back (cells_of s.table) row i _ _ address low held c.revive.ensures lowest.0
+    let held = ap (λ n. get_or n.blocks i None) c.revive.ensures ∙ get_or-set_same c.self.inside.blocks.items i (Some c.size-size.result) None (omega (arith, c.self.invariant.blocks)) ∙ ap Some size in
+    let put = ap (λ n. n.cells) c.revive.ensures ∙ ap (λ n. row_put n.cells (1024 + i) row) c.self.view_is in
+    let lowest = found_lowest (drop 1024 m.cells) _ (length row) _ (Some i) (omega arith) c.heap.ensures.value size (sym c.in_ok-i.ensures.ok_part ∙ c.first_fit.ensures.value) in
+    deleted_back m.cells row i _ _ address low held put lowest.0
 
 pub returns-clause-variables : goal.returns-clause-variables
 returns-clause-variables g c =
-    (ap (take 1024) c.revive.ensures ∙ take-row_put 1024 (cells_of c.args.self.now.table) (1024 + c.in_ok-i.i) (fresh (g.L.Layout.kinds c.args.layout.now)) (omega arith), refl)
+    rw (c.revive.ensures, ← c.self.view_is) (take-row_put 1024 c.self.inside.cells.items (1024 + c.in_ok-i.i) (fresh (g.L.Layout.kinds c.args.layout.now)) (omega arith), refl)
