@@ -8,74 +8,50 @@ use crate::layers::Layer;
 // What is wrong with a card's format.
 #[derive(Clone, Copy, PartialEq, Eq, Debug)]
 pub enum CardError {
-    // no record, too many, or a part of one
-    Size = 1,
-    // the mark is unknown
-    Mark = 2,
-    // a byte that should be 0 is not
-    Padding = 3,
-    // a field names nothing, too early a record or a wrong mark
-    Reference = 4,
-    // the record is not named exactly once
-    Owner = 5,
-    // a number is out of its range, or a name is no identifier
-    Range = 6,
+    Size = 1, // no record, too many, or a part of one
+    Mark = 2, // the mark is unknown
+    Padding = 3, // a byte that should be 0 is not
+    Reference = 4, // a field names nothing, too early a record or a wrong mark
+    Owner = 5, // the record is not named exactly once
+    Range = 6, // a number is out of its range, or a name is no identifier
 }
 
 // What is wrong with the names of a card.
 #[derive(Clone, Copy, PartialEq, Eq, Debug)]
 pub enum NameError {
-    // a second declaration in a scope, or a second component in a record
-    Redeclared = 10,
-    // no declaration here
-    Undeclared = 11,
-    // type, variable and function are mistaken for each other
-    Mistaken = 12,
-    // a type declaration reaches itself
-    Circular = 13,
-    // a function is declared in a let
-    LocalFunction = 14,
-    // a function without body is none of the outside functions
-    NoBody = 15,
-    // no main to run
-    NoMain = 16,
+    Redeclared = 10, // a second declaration in a scope, or a second component in a record
+    Undeclared = 11, // no declaration here
+    Mistaken = 12, // type, variable and function are mistaken for each other
+    Circular = 13, // a type declaration reaches itself
+    LocalFunction = 14, // a function is declared in a let
+    NoBody = 15, // a function without body is none of the outside functions
+    NoMain = 16, // no main to run
 }
 
 // What is wrong with the types of a card.
 #[derive(Clone, Copy, PartialEq, Eq, Debug)]
 pub enum TypeError {
-    // a type rule does not hold
-    Rule = 20,
-    // an lvalue is wanted
-    NotLvalue = 21,
-    // an array, a record or a void stands where a value is wanted
-    NotScalar = 22,
-    // a type, or all globals together, are too large
-    TooLarge = 23,
-    // too many parameters, or another number of arguments
-    Arguments = 24,
+    Rule = 20, // a type rule does not hold
+    NotLvalue = 21, // an lvalue is wanted
+    NotScalar = 22, // an array, a record or a void stands where a value is wanted
+    TooLarge = 23, // a type, or all globals together, are too large
+    Arguments = 24, // too many parameters, or another number of arguments
 }
 
 // What is wrong with a tape or with the codes of a bench unit.
 #[derive(Clone, Copy, PartialEq, Eq, Debug)]
 pub enum LinkError {
-    // too many entries, or a part of one
-    Size = 1,
-    // the mark is not QA
-    Mark = 2,
-    // a byte after the request is not 0
-    Padding = 3,
-    // a length or a count is out of its range
-    Range = 6,
+    Size = 1, // too many entries, or a part of one
+    Mark = 2, // the mark is not QA
+    Padding = 3, // a byte after the request is not 0
+    Range = 6, // a length or a count is out of its range
 }
 
 // What is wrong with a call of the reader.
 #[derive(Clone, Copy, PartialEq, Eq, Debug)]
 pub enum CallError {
-    // there is no run to go on with
-    NoRun = 41,
-    // the portion of fuel is too large
-    Portion = 42,
+    NoRun = 41, // there is no run to go on with
+    Portion = 42, // the portion of fuel is too large
 }
 
 impl Cause for CardError {

@@ -8,28 +8,17 @@ use crate::layers::Layer;
 // How a run can end other than by a value. It is no refusal: what was found so far stays.
 #[derive(Clone, Copy, PartialEq, Eq, Debug)]
 pub enum RunFault {
-    // the divisor is 0
-    ZeroDivisor = 30,
-    // an index lies outside its array
-    IndexRange = 31,
-    // a nil pointer is followed, or the cell is dead, absent or of another kind
-    NoCell = 32,
-    // the cell was never written
-    Unwritten = 33,
-    // no room for `new`
-    HeapFull = 34,
-    // too many open rules, or variables that do not fit
-    StackFull = 35,
-    // `del` of what `new` did not give
-    NotABlock = 36,
-    // `put` of no byte, or of an eighth
-    RequestByte = 37,
-    // a byte outside the reply
-    NoSuchByte = 38,
-    // a finding too many
-    FindingsFull = 39,
-    // the fuel of a whole run is used up
-    FuelLimit = 40,
+    ZeroDivisor = 30, // the divisor is 0
+    IndexRange = 31, // an index lies outside its array
+    NoCell = 32, // a nil pointer is followed, or the cell is dead, absent or of another kind
+    Unwritten = 33, // the cell was never written
+    HeapFull = 34, // no room for `new`
+    StackFull = 35, // too many open rules, or variables that do not fit
+    NotABlock = 36, // `del` of what `new` did not give
+    RequestByte = 37, // `put` of no byte, or of an eighth
+    NoSuchByte = 38, // a byte outside the reply
+    FindingsFull = 39, // a finding too many
+    FuelLimit = 40, // the fuel of a whole run is used up
 }
 
 impl Cause for RunFault {

@@ -4,18 +4,12 @@ ghost use Rattle.reason.specs.Layers.{numeral};
 // The part of the reader that says no, in the order in which a script meets them.
 #[derive(Clone, Copy, PartialEq, Eq, Debug)]
 pub enum Layer {
-    // the card's format
-    Card = 1,
-    // names and scopes
-    Names = 2,
-    // types
-    Types = 3,
-    // a running script
-    Run = 4,
-    // a tape or a bench unit
-    Link = 5,
-    // a call of the reader
-    Call = 6,
+    Card = 1, // the card's format
+    Names = 2, // names and scopes
+    Types = 3, // types
+    Run = 4, // a running script
+    Link = 5, // a tape or a bench unit
+    Call = 6, // a call of the reader
 }
 
 impl Layer {

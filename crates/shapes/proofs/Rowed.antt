@@ -1,5 +1,5 @@
 -- The rows of a table of shapes. Assumes nothing.
-use Rattle.std.proofs.Common.{◌≡◌, ℕ, zero, suc, ◌+◌, ◌-◌, ◌*◌, ◌%◌, ◌<◌, ◌≤◌, true, List, [], ◌∷◌, ◌++◌, map, length, get_or, take, drop, Some, None, Option, Bor, sym, refl, ap, ◌∙◌, inl, inr, ⊎_elim, mod-eq_of_lt, zero-mul, arith}
+use Rattle.std.proofs.Common.{◌≡◌, ℕ, zero, suc, ◌+◌, ◌-◌, ◌*◌, ◌%◌, ◌<◌, ◌≤◌, true, List, [], ◌∷◌, ◌++◌, map, length, get_or, take, drop, Some, None, Option, Bor, sym, refl, ap, ◌∙◌, inl, inr, ⊎_elim, mod-eq_of_lt, zero-mul, arith, lit≤}
 use native.Mathlib.Nat.{add-mod_right}
 use Rattle.std.proofs.Math.ListN.{get_or-map as get_or-map_all}
 use Rattle.std.proofs.lemmas.List.{get_or_at, get_or_read, get_or_append_left, get_or_past, get_or_push, length-map, get_or-map, map_push, length-append, length_push, length-take-le, drop_more, take-append-drop}
@@ -121,15 +121,23 @@ some_cells [] k h = absurd (omega arith)
 some_cells (m ∷ rows) zero h = m.some
 some_cells (m ∷ rows) (suc k) h = some_cells rows k (omega arith)
 
+-- and at most 1,024
+few_cells : (rows : List Measured) (k : ℕ) → get_or (sizes_of rows) k 0 ≤ 1024
+few_cells [] k = lit≤ tt
+few_cells (m ∷ rows) zero = m.small
+few_cells (m ∷ rows) (suc k) = few_cells rows k
+
 -- what the invariant says of the shapes
 pub table_of : (t : Inside) → Held t → (ss : List Shape) → shapes_of t.rows.items ≡ ss → IsTable ss
 table_of t held ss same =
     let rows = t.rows.items in
     let long = length-map rows (λ m. m.shape) in
+    let cells = λ (k : ℕ). (let size = ap (λ l. get_or l k 0) held.sized ∙ get_or-map_all length (rows_of (shapes_of rows)) k [] in size) in
     rw (← same) (record {
       few = omega (arith, held.few, long, t.rows.ok.0);
       below = held.below;
-      some = λ k h. omega (arith, some_cells rows k (omega (arith, h, long)), ap (λ l. get_or l k 0) held.sized, get_or-map_all length (rows_of (shapes_of rows)) k []);
+      some = λ k h. omega (arith, some_cells rows k (omega (arith, h, long)), cells k);
+      small = λ k. omega (arith, few_cells rows k, cells k);
     })
 
 -- the row that is found at a place

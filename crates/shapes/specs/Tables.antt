@@ -11,11 +11,12 @@ use Rattle.shapes.specs.declared.tables.measured.Measured.{Measured}
 abbrev pub kinds_at : List Shape → ℕ → List Kind
 kinds_at ss i = slice_index_or (rows_of ss) i []
 
--- every table has at most 2,000 shapes, each of which names only earlier ones and has a cell
+-- every table has at most 2,000 shapes, each of which names only earlier ones and has 1 to 1,024 cells
 pub record IsTable (ss : List Shape) : Type 0 where
   pub few : length ss ≤ 2000
   pub below : (k : ℕ) → refers_below (slice_index_or ss k (Scalar Char)) k ≡ true
   pub some : (k : ℕ) → k < length ss → 1 ≤ length (kinds_at ss k)
+  pub small : (k : ℕ) → length (kinds_at ss k) ≤ 1024
 
 -- what a row says of the shape at its place
 pub record RowAt (ss : List Shape) (place : ℕ) (row : Measured) : Type 0 where

@@ -13,11 +13,8 @@ impl Shapes {
     pub fn laid(&self, place: usize) -> Option<Laid<'_>>
         ensures { option_map kinds_in result ≡ laid_at (kinds_at self.now place) }
     {
-        if self.size(place) > 0 {
-            Some(Laid { table: self, place })
-        } else {
-            None
-        }
+        self.row(place)?;
+        Some(Laid { table: self, place })
     }
 }
 

@@ -17,7 +17,7 @@ impl Shapes {
     }
 
     // The row at a place.
-    pub(super) fn row(&self, place: usize) -> Option<&Measured>
+    pub(crate) fn row(&self, place: usize) -> Option<&Measured>
         ensures some { IfSome result (λ row. RowAt self.now place row.now) }
         ensures none { IfNone result (kinds_at self.now place ≡ []) }
         ensures table { IsTable self.now }
