@@ -20,8 +20,8 @@ impl Store {
     pub(super) fn put(&mut self, place: usize, cell: Cell)
         ensures { self.new ≡ with_cells self.old (slice_set self.old.cells place cell) }
     {
-        if place < self.cells.len() {
-            self.cells[place] = cell;
+        if let Some(old) = self.cells.get_mut(place) {
+            *old = cell;
         }
     }
 
