@@ -1,7 +1,7 @@
 -- `del` of a block that `new` gave. Assumes nothing.
-use Rattle.std.proofs.Common.{◌≡◌, ℕ, suc, ◌+◌, ◌-◌, ◌<◌, List, length, get_or, drop, replicate, ℤ, pos, Some, None, sym, ap, ◌∙◌, arith}
+use Rattle.std.proofs.Common.{◌≡◌, ℕ, ◌+◌, ◌-◌, List, length, get_or, drop, replicate, ℤ, Some, None, sym, ap, ◌∙◌, arith}
 use Rattle.std.proofs.lemmas.List.{get_or-drop, length-replicate}
-use Rattle.std.proofs.lemmas.Bool.{cond-true, le-leb, lt-ltb}
+use Rattle.std.proofs.lemmas.Bool.{cond-true, le-leb}
 use Rattle.cells.specs.Cells.{index_of}
 use Rattle.cells.specs.Laws.{DeadRow}
 use Rattle.cells.specs.Memory.{Memory, deleted, deleted_at, drop_block}
@@ -10,26 +10,20 @@ use Rattle.cells.specs.declared.cell.Cell.{Cell}
 use Rattle.cells.specs.declared.cell.Cell.TheVariants.{Dead}
 use Rattle.cells.proofs.Found.{dead_over, row_put_over}
 
-index_block : (i : ℕ) → i < 1024 → index_of (pos (1025 + i)) ≡ Some (1024 + i)
-index_block i h =
-    let e : 1025 + i ≡ suc (1024 + i) = omega arith in
-    ap (λ n. index_of (pos n)) e ∙ cond-true _ _ _ (lt-ltb (1024 + i) 2048 (omega arith))
-
 -- the block that begins at place i dies
-block_dies : (i n : ℕ) (m : Memory) → i < 1024 → get_or m.blocks i None ≡ Some n → deleted (pos (1025 + i)) m ≡ drop_block i (Some n) m
-block_dies i n m h size =
+block_dies : (i n : ℕ) (a : ℤ) (m : Memory) → index_of a ≡ Some (1024 + i) → get_or m.blocks i None ≡ Some n → deleted a m ≡ drop_block i (Some n) m
+block_dies i n a m at size =
     let back : 1024 + i - 1024 ≡ i = omega arith in
-    ap (λ o. deleted_at o m) (index_block i h)
+    ap (λ o. deleted_at o m) at
     ∙ cond-true _ _ _ (le-leb 1024 (1024 + i) (omega arith))
     ∙ ap (λ j. drop_block j (get_or m.blocks j None) m) back
     ∙ ap (λ s. drop_block i s m) size
 
 -- a row that was dead, put into the table as a block, and deleted
-pub deleted_back : (cs row : List Cell) (i : ℕ) (a : ℤ) (m : Memory) → a ≡ pos (1025 + i) → i < 1024 → get_or m.blocks i None ≡ Some (length row) → m.cells ≡ row_put cs (1024 + i) row → DeadRow (drop 1024 cs) i (length row) →
+pub deleted_back : (cs row : List Cell) (i : ℕ) (a : ℤ) (m : Memory) → index_of a ≡ Some (1024 + i) → get_or m.blocks i None ≡ Some (length row) → m.cells ≡ row_put cs (1024 + i) row → DeadRow (drop 1024 cs) i (length row) →
     (deleted a m).1.cells ≡ cs
-deleted_back cs row i a m at low size put dead =
-    ap (λ b. (deleted b m).1.cells) at
-    ∙ ap (λ p. p.1.cells) (block_dies i (length row) m low size)
+deleted_back cs row i a m at size put dead =
+    ap (λ p. p.1.cells) (block_dies i (length row) a m at size)
     ∙ ap (λ l. row_put l (1024 + i) (replicate (length row) Dead)) put
     ∙ row_put_over cs (1024 + i) row (replicate (length row) Dead) (sym (length-replicate (length row) Dead))
     ∙ dead_over cs (1024 + i) (length row)

@@ -1,5 +1,5 @@
 -- Cells and what reading and writing one gives. Assumes nothing.
-use Rattle.std.specs.Prelude.{ℕ, zero, suc, Bool, false, cond, List, ℤ, pos, negsuc, Some, None, Ok, Err, Option, Result, ◌==◌, nat_lt, slice_index_or}
+use Rattle.std.specs.Prelude.{ℕ, zero, suc, ◌+◌, Bool, false, cond, List, ℤ, pos, negsuc, Some, None, Ok, Err, Option, Result, ◌==◌, nat_lt, slice_index_or}
 use Rattle.reason.specs.declared.faults.RunFault.TheVariants as runfault
 use Rattle.value.specs.Values.{Given, kind_of}
 use Rattle.value.specs.declared.kinds.Kind.{Kind}
@@ -67,6 +67,10 @@ abbrev pub index_of : ℤ → Option ℕ
 index_of (pos zero) = None
 index_of (pos (suc n)) = cond (nat_lt n 2048) (Some n) None
 index_of (negsuc n) = None
+
+-- the number of the cell at a place
+abbrev pub address_of : ℕ → ℤ
+address_of i = pos (i + 1)
 
 abbrev pub at : Option ℕ → List Cell → Cell
 at None cs = cell.Dead

@@ -1,5 +1,5 @@
-ghost use Rattle.std.specs.Prelude.{◌≡◌, ◌<◌, IfSome};
-ghost use Rattle.cells.specs.Cells.{cell_of, contents_of, index_of, kind_in, read_cell, written_by};
+ghost use Rattle.std.specs.Prelude.{◌≡◌, ◌<◌, IfSome, Some};
+ghost use Rattle.cells.specs.Cells.{address_of, cell_of, contents_of, index_of, kind_in, read_cell, written_by};
 
 use reason::faults::RunFault;
 use value::kinds::Kind;
@@ -93,4 +93,13 @@ pub fn index_of(address: i64) -> Option<usize>
         1..=2048 => Some((address - 1) as usize),
         _ => None,
     }
+}
+
+// The number of the cell at a place in the table.
+pub(crate) fn address_of(place: usize) -> i64
+    requires { place < 2048 }
+    ensures value { result ≡ address_of place }
+    ensures undone { index_of result ≡ Some place }
+{
+    (place + 1) as i64
 }

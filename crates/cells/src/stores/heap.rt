@@ -3,7 +3,7 @@ ghost use Rattle.cells.specs.Laws.{Finds, LeavesVariables, Restores};
 ghost use Rattle.cells.specs.Memory.{deleted, new_block};
 
 use super::Store;
-use crate::cell::index_of;
+use crate::cell::{address_of, index_of};
 use crate::fits::first_fit;
 use crate::layouts::Layout;
 use reason::faults::RunFault;
@@ -25,7 +25,7 @@ impl Store {
         let i = first_fit(self.heap(), size).ok_or(RunFault::HeapFull)?;
         self.blocks[i] = Some(size as u16);
         self.revive(1024 + i, layout);
-        Ok((1025 + i) as i64)
+        Ok(address_of(1024 + i))
     }
 
     // The block of `new` that begins at an address dies. Fault 36 where none does.

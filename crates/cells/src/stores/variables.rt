@@ -3,7 +3,7 @@ ghost use Rattle.cells.specs.Laws.{KeepsFirst, LeavesHeap};
 ghost use Rattle.cells.specs.Memory.{IsMemory, given_up, laid, laid_value};
 
 use super::Store;
-use crate::cell::Cell;
+use crate::cell::{Cell, address_of};
 use crate::layouts::Layout;
 use reason::faults::RunFault;
 use value::values::{Stop, Value};
@@ -32,7 +32,7 @@ impl Store {
         }
         self.used = used + size;
         self.revive(used, layout);
-        Ok((used + 1) as i64)
+        Ok(address_of(used))
     }
 
     // A parameter comes to life above what is in use, holding its argument; its cell is told. Fault 35 where it does not fit.
@@ -51,7 +51,7 @@ impl Store {
         }
         self.used = used + 1;
         self.put(used, Cell::from(value));
-        Ok((used + 1) as i64)
+        Ok(address_of(used))
     }
 
     // Everything above a mark dies.

@@ -1,5 +1,5 @@
-use Rattle.std.proofs.Common.{◌≡◌, ◌+◌, ◌<◌, length, get_or, drop, pos, None, Some, Err, sym, refl, ap, ◌∙◌, subst, arith, rules, w64, to_z}
-use Rattle.std.proofs.lemmas.Int.{to_z_pos}
+use Rattle.std.proofs.Common.{◌≡◌, ◌+◌, length, get_or, drop, pos, None, Some, Err, sym, refl, ap, ◌∙◌, subst, arith, rules, w64, SFits}
+use Rattle.std.proofs.lemmas.Int.{to_z-of_z}
 use Rattle.std.proofs.lemmas.List.{length-drop, get_or-set_same}
 use Rattle.reason.specs.declared.faults.RunFault.TheVariants.{HeapFull}
 use Rattle.value.specs.declared.values.Stop.TheVariants.{Fault}
@@ -26,9 +26,9 @@ returns-in_err-i-clause-lowest g c =
 pub returns-clause-lowest : goal.returns-clause-lowest
 returns-clause-lowest g c =
     let i = c.in_ok-i.i in
-    let low = rw c.in_ok-i.ensures.ok_part at c.first_fit.ensures.within in
-    let address : to_z w64 (1025 + i) ≡ pos (1025 + i) = to_z_pos w64 (1025 + i) (omega (arith, c.heap.ensures.long)) in
-    (i, address, found_lowest _ _ _ _ (Some i) (omega arith) c.heap.ensures.value c.size-size.ensures.value (sym c.in_ok-i.ensures.ok_part ∙ c.first_fit.ensures.value))
+    let fits : SFits w64 c.address_of.result = search rules in
+    let next : 1024 + i + 1 ≡ 1025 + i = omega arith in
+    (i, to_z-of_z w64 _ fits ∙ c.address_of.ensures.value ∙ ap pos next, found_lowest _ _ _ _ (Some i) (omega arith) c.heap.ensures.value c.size-size.ensures.value (sym c.in_ok-i.ensures.ok_part ∙ c.first_fit.ensures.value))
 
 pub returns-clause-undone : goal.returns-clause-undone
 returns-clause-undone g c =
@@ -36,13 +36,12 @@ returns-clause-undone g c =
     let row = fresh (g.L.Layout.kinds c.args.layout.now) in
     let i = c.in_ok-i.i in
     let within = rw c.in_ok-i.ensures.ok_part at c.first_fit.ensures.within in
-    let low : i < 1024 = omega (arith, c.heap.ensures.long) in
-    let address : to_z w64 (1025 + i) ≡ pos (1025 + i) = to_z_pos w64 (1025 + i) (omega arith) in
+    let fits : SFits w64 c.address_of.result = search rules in
     let size : c.size-size.result ≡ length row = c.size-size.ensures.value ∙ sym (length-fresh (g.L.Layout.kinds c.args.layout.now)) in
-    let held = ap (λ n. get_or n.blocks i None) c.revive.ensures ∙ get_or-set_same c.self.inside.blocks.items i (Some c.size-size.result) None (omega (arith, c.self.invariant.blocks)) ∙ ap Some size in
+    let held = ap (λ n. get_or n.blocks i None) c.revive.ensures ∙ get_or-set_same c.self.inside.blocks.items i (Some c.size-size.result) None (omega (arith, within, c.heap.ensures.long, c.self.invariant.blocks)) ∙ ap Some size in
     let put = ap (λ n. n.cells) c.revive.ensures ∙ ap (λ n. row_put n.cells (1024 + i) row) c.self.view_is in
     let lowest = found_lowest (drop 1024 m.cells) _ (length row) _ (Some i) (omega arith) c.heap.ensures.value size (sym c.in_ok-i.ensures.ok_part ∙ c.first_fit.ensures.value) in
-    deleted_back m.cells row i _ _ address low held put lowest.0
+    rw (to_z-of_z w64 c.address_of.result fits) (deleted_back m.cells row i c.address_of.result _ c.address_of.ensures.undone held put lowest.0)
 
 pub returns-clause-variables : goal.returns-clause-variables
 returns-clause-variables g c =
