@@ -1,11 +1,13 @@
 -- Rows of cells put into the table. Assumes nothing.
-use Rattle.std.proofs.Common.{◌≡◌, ℕ, ◌+◌, ◌<◌, List, ◌∷◌, length, drop, set, Some, None, sym, ap, ◌∙◌, arith}
-use Rattle.std.proofs.lemmas.List.{drop_more, length-map}
+use Rattle.std.proofs.Common.{◌≡◌, ℕ, zero, suc, ◌+◌, ◌<◌, ◌≤◌, min, List, ◌∷◌, ◌++◌, length, take, drop, set, replicate, Some, None, sym, refl, ap, ◌∙◌, arith}
+use Rattle.std.proofs.lemmas.List.{append_assoc, drop-drop, drop-set-lt, drop_more, length-map, length-set, set_past, take-append-drop, take_more_set}
 use Rattle.std.proofs.lemmas.Option.{get_or_from_slice_get, slice_get-get_or, slice_get_within}
 use Rattle.value.specs.declared.kinds.Kind.TheVariants.{Char}
 use Rattle.value.specs.declared.kinds.Kind.{Kind}
 use Rattle.cells.specs.Layouts.{kind_at, fresh}
 use Rattle.cells.specs.Memory.{Memory, row_in, with_cells}
+use Rattle.cells.specs.Rows.{row_put}
+use Rattle.cells.specs.declared.cell.Cell.{Cell}
 use Rattle.cells.specs.declared.cell.Cell.TheVariants.{Unwritten}
 
 pub length-fresh : (ks : List Kind) → length (fresh ks) ≡ length ks
@@ -24,3 +26,17 @@ pub revive_more : (m m' : Memory) (at i : ℕ) (ks : List Kind) (k : Kind) → S
 revive_more m m' at i ks k e p =
     let n : at + (i + 1) ≡ at + i + 1 = omega arith in
     (λ t. row_in (n t) (fresh (drop (i + 1) ks)) (p t)) ∙ sym (ap (λ l. row_in (at + i) (fresh l) m) (kind_first ks i k e))
+
+-- a row of one cell changes nothing where no place of it is in the table
+pub row_past : (cs : List Cell) (at size : ℕ) (c : Cell) → min (length cs) (at + size) ≤ at → row_put cs at (replicate size c) ≡ cs
+row_past cs at zero c h = refl
+row_past cs at (suc n) c h = ap (λ l. row_put l (at + 1) (replicate n c)) (set_past cs at c (omega arith)) ∙ row_past cs (at + 1) n c (omega arith)
+
+-- a row of one cell, of which the first n places are in the table
+pub row_filled : (cs : List Cell) (at n size : ℕ) (c : Cell) → at + n ≡ min (length cs) (at + size) → take at cs ++ (replicate n c ++ drop n (drop at cs)) ≡ row_put cs at (replicate size c)
+row_filled cs at zero size c h = take-append-drop at cs ∙ sym (row_past cs at size c (omega arith))
+row_filled cs at (suc n) zero c h = absurd (omega arith)
+row_filled cs at (suc n) (suc m) c h =
+    let far : drop (suc n) (drop at cs) ≡ drop n (drop (at + 1) cs) = drop-drop (suc n) at cs ∙ ap (λ i. drop i cs) (omega arith) ∙ sym (drop-drop n (at + 1) cs) in
+    let rest = row_filled (set cs at c) (at + 1) n m c (omega (arith, length-set cs at c)) in
+    rw far (rw (take_more_set cs at c (omega arith), drop-set-lt (at + 1) cs at c (omega arith), append_assoc) at rest)

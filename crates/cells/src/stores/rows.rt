@@ -37,13 +37,14 @@ impl Store {
         }
     }
 
-    // A row of cells dies.
+    // A row of cells dies, as far as it lies in the table.
     pub(super) fn clear(&mut self, at: usize, size: usize)
         requires { at + size < 2 ^ 32 }
         ensures { self.new ≡ row_in at (replicate size Dead) self.old }
     {
-        for place in at..at + size {
-            self.put(place, Cell::Dead);
+        let end = self.cells.len().min(at + size);
+        if at < end {
+            self.cells[at..end].fill(Cell::Dead);
         }
     }
 }

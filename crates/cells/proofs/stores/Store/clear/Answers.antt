@@ -1,13 +1,14 @@
-use Rattle.std.proofs.Common.{◌≡◌, suc, ◌+◌, ◌-◌, replicate, sym, ap, ◌∙◌, arith}
-use Rattle.cells.specs.Memory.{row_in}
+use Rattle.std.proofs.Common.{◌-◌, length, ap, arith}
+use Rattle.std.proofs.lemmas.Grind.{common_steps}
 use Rattle.cells.specs.declared.cell.Cell.TheVariants.{Dead}
+use Rattle.cells.proofs.Rows.{row_past, row_filled}
 use Rattle.cells.proofs.stores.Store.clear.Goals as goal
 
-pub loop-place-preserved : goal.loop-place-preserved
-loop-place-preserved c =
-    let place = c.loop-place.place in
-    let end = c.args.at + c.args.size in
-    let left : end - place ≡ suc (end - (place + 1)) = omega arith in
-    ap (row_in (place + 1) (replicate (end - (place + 1)) Dead)) c.put.ensures
-    ∙ sym (ap (λ n. row_in place (replicate n Dead) c.loop-place.self) left)
-    ∙ c.loop-place.invariant
+pub returns-then-at-end : goal.returns-then-at-end
+returns-then-at-end c =
+    let filled = row_filled c.deref_mut.result.now c.args.at (c.min-end.result - c.args.at) c.args.size Dead (omega (arith, ap length c.deref_mut.ensures.value)) in
+    let dead = c.fill.ensures.after (λ y e. e) in
+    grind (arith, common_steps, filled, dead)
+
+pub returns-else-at-end : goal.returns-else-at-end
+returns-else-at-end c = grind (arith, row_past)
