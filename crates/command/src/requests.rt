@@ -1,10 +1,11 @@
-ghost use Rattle.std.specs.Prelude.{◌≡◌, map, IfOk, vec_items, string_bytes};
+ghost use Rattle.std.specs.Prelude.{◌≡◌, map, IfOk, vec_items};
 ghost use Rattle.std.specs.Option.{option_map};
 ghost use Rattle.command.specs.Requests.{Reads, request_of};
 
 use crate::failures::Failure;
 use hexadecimal::decode;
 use std::alloc::{AllocError, Global};
+use std::convert::AsStr;
 
 // The request that a word stands for: its bytes in hexadecimal, or `-` for none.
 pub fn read_request(heap: Global, word: &str) -> Result<Option<Vec<u8>>, AllocError>
@@ -17,8 +18,8 @@ pub fn read_request(heap: Global, word: &str) -> Result<Option<Vec<u8>>, AllocEr
 }
 
 // The requests that words stand for, in order; a word that is none is told by its number, counted from 1.
-pub fn read_requests(heap: Global, words: &[String]) -> Result<Vec<Vec<u8>>, Failure>
-    ensures { Reads (map string_bytes words.now) result }
+pub fn read_requests<S: AsStr>(heap: Global, words: &[S]) -> Result<Vec<Vec<u8>>, Failure>
+    ensures { Reads (map S.text words.now) result }
 {
     let mut requests = Vec::new(heap);
     for (i, word) in words.iter().enumerate() {

@@ -1,23 +1,23 @@
-ghost use Rattle.std.specs.Prelude.{◌≡◌, map, string_bytes};
+ghost use Rattle.std.specs.Prelude.{◌≡◌, map};
 ghost use Rattle.std.specs.Option.{option_map};
 ghost use Rattle.command.specs.Told.{told};
 ghost use Rattle.command.specs.Words.{command_of};
 
+use std::convert::AsStr;
+
 // What the handheld is told to do.
-#[derive(Clone, Copy, PartialEq, Eq, Debug)]
-pub enum Command<'a> {
+#[derive_where(Clone, Copy)]
+#[derive(PartialEq, Eq, Debug)]
+pub enum Command<'a, S> {
     // --help
     Help,
     // visit TAPE REQUEST...
-    Visit {
-        tape: &'a str,
-        requests: &'a [String],
-    },
+    Visit { tape: &'a str, requests: &'a [S] },
 }
 
 // The command that the words of a command line give, or nothing.
-pub fn command_of(words: &[String]) -> Option<Command<'_>>
-    ensures { option_map told result ≡ command_of (map string_bytes words.now) }
+pub fn command_of<S: AsStr>(words: &[S]) -> Option<Command<'_, S>>
+    ensures { option_map (told S.text) result ≡ command_of (map S.text words.now) }
 {
     match words {
         [first] if first.as_str() == "--help" => Some(Command::Help),

@@ -7,35 +7,20 @@ use reason::errors::LinkError;
 use reason::faults::RunFault;
 use reason::reasons::Reason;
 use refusal::refusals::{FaultAt, Refusal};
-use std::alloc::{AllocError, Global};
 use std::test::Fail;
-
-fn owned(heap: Global, texts: &[&str]) -> Result<Vec<String>, AllocError> {
-    let mut words = Vec::new(heap);
-    for text in texts {
-        words.push(String::from_str(heap, text)?)?;
-    }
-    Ok(words)
-}
 
 #[test]
 fn commands(rt: HostRuntime) -> Result<(), Fail> {
-    let help = owned(rt.alloc(), &["--help"])?;
-    assert_eq!(rt; command_of(help.as_slice()), Some(Command::Help));
-    let more = owned(rt.alloc(), &["--help", "visit"])?;
-    assert_eq!(rt; command_of(more.as_slice()), None);
-    let visit = owned(rt.alloc(), &["visit", "a.tape"])?;
-    assert_eq!(rt;
-        command_of(visit.as_slice()),
-        Some(Command::Visit {
-            tape: "a.tape",
-            requests: &[],
-        })
-    );
-    let alone = owned(rt.alloc(), &["visit"])?;
-    assert_eq!(rt; command_of(alone.as_slice()), None);
-    let capital = owned(rt.alloc(), &["Visit", "a.tape", "03"])?;
-    assert_eq!(rt; command_of(capital.as_slice()), None);
+    let help = Some(Command::Help);
+    assert_eq!(rt; command_of(&["--help"]), help);
+    assert_eq!(rt; command_of(&["--help", "visit"]), None);
+    let visit = Some(Command::Visit {
+        tape: "a.tape",
+        requests: &[],
+    });
+    assert_eq!(rt; command_of(&["visit", "a.tape"]), visit);
+    assert_eq!(rt; command_of(&["visit"]), None);
+    assert_eq!(rt; command_of(&["Visit", "a.tape", "03"]), None);
     Ok(())
 }
 
@@ -54,11 +39,7 @@ fn requests(rt: HostRuntime) -> Result<(), Fail> {
 
 #[test]
 fn a_bad_request_is_told(rt: HostRuntime) -> Result<(), Fail> {
-    let words = vec![in rt.alloc();
-        String::from_str(rt.alloc(), "03")?,
-        String::from_str(rt.alloc(), "x3")?,
-    ]?;
-    let read = read_requests(rt.alloc(), words.as_slice());
+    let read = read_requests(rt.alloc(), &["03", "x3"]);
     let failure = read.err().ok_or("x3 was read")?;
     let line = format!(in rt.alloc(); "{failure}")?;
     assert!(rt; line.as_str() == "request #2 is no hexadecimal text");
