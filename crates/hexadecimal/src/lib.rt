@@ -18,7 +18,7 @@ fn digit(c: u8) -> Option<u32>
 fn pair(high: u8, low: u8) -> Option<u8>
     ensures { result ≡ pair_of high low }
 {
-    u8::try_from(16 * digit(high)? + digit(low)?).ok()
+    Some((16 * digit(high)? + digit(low)?) as u8)
 }
 
 // The bytes that hexadecimal text stands for, two digits a byte, in either case; nothing where the text is no such thing.
@@ -31,10 +31,10 @@ pub fn decode(heap: Global, text: &[u8]) -> Result<Option<Vec<u8>>, AllocError>
     }
     let mut bytes = Vec::new(heap);
     for [high, low] in pairs {
-        match pair(*high, *low) {
-            Some(b) => bytes.push(b)?,
-            None => return Ok(None),
-        }
+        let Some(b) = pair(*high, *low) else {
+            return Ok(None);
+        };
+        bytes.push(b)?;
     }
     Ok(Some(bytes))
 }

@@ -13,13 +13,13 @@ loop-high-init c =
     let all : read c.as_chunks.result.0.now ≡ bytes_of c.args.text.now = ap read c.as_chunks.ensures.front ∙ even in
     grind (arith)
 
-pub returns-in-None : goal.returns-in-None
-returns-in-None c = sym (pair_bad c.as_chunks.result.0.now c.loop-high.high-index (vec_items c.loop-high.bytes) c.loop-high-test.true c.in-None.ensures) ∙ c.loop-high.invariant
+pub returns-in_default : goal.returns-in_default
+returns-in_default c = sym (pair_bad c.as_chunks.result.0.now c.loop-high.high-index (vec_items c.loop-high.bytes) c.loop-high-test.true c.in_default.ensures) ∙ c.loop-high.invariant
 
 pub loop-high-preserved : goal.loop-high-preserved
 loop-high-preserved c =
     let more = pair_more c.as_chunks.result.0.now c.loop-high.high-index (vec_items c.loop-high.bytes) c.in-Some.b c.loop-high-test.true c.in-Some.ensures in
-    cc (c.in_ok-push-in-Some.ensures.items)
+    cc (c.in_ok-push.ensures.items)
 
 pub returns : goal.returns
 returns c = sym (pairs_end c.as_chunks.result.0.now c.loop-high.high-index (vec_items c.loop-high.bytes) c.loop-high-test.false) ∙ c.loop-high.invariant
