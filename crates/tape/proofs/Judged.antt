@@ -1,13 +1,12 @@
 -- The judgement of a tape's entries, one after the other. Assumes nothing.
-use Rattle.std.proofs.Common.{◌≡◌, ℕ, zero, suc, ◌+◌, ◌/◌, ◌<◌, List, [], ◌∷◌, ◌++◌, map, length, get_or, take, drop, Some, None, Ok, Err, Option, refl, ap, arith}
+use Rattle.std.proofs.Common.{◌≡◌, ℕ, zero, suc, ◌+◌, ◌/◌, ◌<◌, List, [], ◌∷◌, length, get_or, take, drop, Some, None, Ok, Err, Option, refl, ap, arith}
 use Rattle.std.proofs.lemmas.Bool.Decides.{nat_tests}
-use Rattle.std.proofs.lemmas.List.{map_more}
 use Rattle.std.specs.Simd.{first_chunks}
 use Rattle.std.specs.Option.{option_or}
 use Rattle.buffers.specs.Records.{records, records_of}
 use Rattle.buffers.proofs.Cuts.{length-records}
 use Rattle.refusal.specs.Refusals.{Refusal}
-use Rattle.tape.specs.Entries.{Fit, Exchange, exchange_of}
+use Rattle.tape.specs.Entries.{Fit}
 use Rattle.tape.specs.Judgement.{judged, wrong, unless, refusal_of}
 
 -- the records are the chunks of 18 bytes
@@ -27,10 +26,6 @@ unless_err n o x e = grind arith
 
 pub unless_ok : (n : ℕ) (o : Option Refusal) (m : ℕ) → unless n o ≡ Ok m → o ≡ None
 unless_ok n o m e = grind arith
-
--- one exchange more
-pub exchange_more : (es : List (List ℕ)) (i : ℕ) (e : List ℕ) (xs : List Exchange) (x : Exchange) → i < length es → e ≡ get_or es i e → xs ≡ map exchange_of (take i es) → x ≡ exchange_of e → xs ++ x ∷ [] ≡ map exchange_of (take (i + 1) es)
-exchange_more es i e xs x h is p q = let more = map_more exchange_of es i e h in cc
 
 -- No refusal: each entry has its lengths in range.
 fit_at : (es : List (List ℕ)) (k i : ℕ) → judged k es ≡ None → i < length es → Fit (get_or es i [])

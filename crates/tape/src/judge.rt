@@ -31,7 +31,7 @@ fn is_sized(n: u8) -> bool
 fn judge_entry(bytes: &[u8; 18], k: usize) -> Result<(), Refusal>
     ensures { result ≡ unless tt (wrong k bytes.now) }
 {
-    if bytes[0] != b'Q' || bytes[1] != b'A' {
+    if !bytes.starts_with(b"QA") {
         return Err(refuse(LinkError::Mark, k));
     }
     if !is_padded(&bytes[3..10], usize::from(bytes[2])) {
