@@ -12,7 +12,6 @@ use crate::services::{Service, service_of};
 use buffers::Buffer;
 use link::Link;
 use reason::errors::LinkError;
-use reason::reasons::Reason;
 use refusal::refusals::Refusal;
 
 impl BenchUnit {
@@ -22,7 +21,7 @@ impl BenchUnit {
         ensures serves { IfOk result (λ u. Serves (standing u).codes) }
     {
         if codes.len() > 30 {
-            return Err(Refusal::new(Reason::Link(LinkError::Range), 0));
+            return Err(Refusal::new(LinkError::Range.into(), 0));
         }
         let mut row = [0u16; 30];
         row[0..codes.len()].copy_from_slice(codes);

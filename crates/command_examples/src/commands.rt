@@ -5,7 +5,6 @@ use command::words::{Command, command_of};
 use hexadecimal::encode;
 use reason::errors::LinkError;
 use reason::faults::RunFault;
-use reason::reasons::Reason;
 use refusal::refusals::{FaultAt, Refusal};
 use std::test::Fail;
 
@@ -48,7 +47,7 @@ fn a_bad_request_is_told(rt: HostRuntime) -> Result<(), Fail> {
 
 #[test]
 fn lines_for_the_mechanic(rt: HostRuntime) -> Result<(), Fail> {
-    let refusal = Refusal::new(Reason::Link(LinkError::Mark), 5);
+    let refusal = Refusal::new(LinkError::Mark.into(), 5);
     let line = format!(in rt.alloc(); "{refusal}")?;
     assert!(rt; line.as_str() == "2 at record 5, layer 5: the mark is not QA");
     let failure = Failure::from(refusal);

@@ -1,6 +1,8 @@
 ghost use Rattle.reason.specs.Layers.{reason_layer};
 ghost use Rattle.reason.specs.Numbers.{reason_number};
 ghost use Rattle.reason.specs.Words.{reason_words};
+ghost use Rattle.reason.specs.declared.reasons.Reason.TheVariants.{Link};
+ghost use Rattle.std.specs.Prelude.{◌≡◌};
 
 use crate::causes::Cause;
 use crate::errors::{CallError, CardError, LinkError, NameError, TypeError};
@@ -14,6 +16,14 @@ pub enum Reason {
     Types(TypeError),
     Link(LinkError),
     Call(CallError),
+}
+
+impl From<LinkError> for Reason {
+    ghost from_gives = { λ e r. r ≡ Link e };
+
+    fn from(error: LinkError) -> Reason {
+        Reason::Link(error)
+    }
 }
 
 impl Cause for Reason {

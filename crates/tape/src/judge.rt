@@ -5,13 +5,12 @@ ghost use Rattle.tape.specs.Entries.{zeros, sized};
 ghost use Rattle.tape.specs.Judgement.{wrong, verdict, unless};
 
 use reason::errors::LinkError;
-use reason::reasons::Reason;
 use refusal::refusals::Refusal;
 
 fn refuse(error: LinkError, k: usize) -> Refusal
     ensures { result ≡ refused (Link error) k }
 {
-    Refusal::new(Reason::Link(error), k)
+    Refusal::new(error.into(), k)
 }
 
 // Whether all bytes from n on are 0.
