@@ -43,7 +43,7 @@ impl<const N: usize> Buffer<N> {
     pub fn len(&self) -> usize
         ensures { result ≡ length (held self.now) }
     {
-        self.len
+        self.as_slice().len()
     }
 
     // Byte i, counted from 0; nothing from the length on.

@@ -39,8 +39,8 @@ impl fmt::Display for Failure {
 impl From<Refusal> for Failure {
     ghost from_gives = { λ x r. r ≡ Refused x };
 
-    fn from(refusal: Refusal) -> Failure {
-        Failure::Refused(refusal)
+    fn from(refused: Refusal) -> Failure {
+        Failure::Refused(refused)
     }
 }
 
@@ -48,7 +48,7 @@ impl From<AllocError> for Failure {
     ghost from_gives = { λ x r. r ≡ NoMemory };
 
     fn from(_error: AllocError) -> Failure {
-        Failure::NoMemory
+        Self::NoMemory
     }
 }
 
@@ -56,7 +56,7 @@ impl<T: Drop> From<NoRoom<T>> for Failure {
     ghost from_gives = { λ x r. r ≡ NoMemory };
 
     fn from(_value: NoRoom<T>) -> Failure {
-        Failure::NoMemory
+        AllocError.into()
     }
 }
 
@@ -64,6 +64,6 @@ impl From<io::Error> for Failure {
     ghost from_gives = { λ x r. r ≡ NoOutput };
 
     fn from(_error: io::Error) -> Failure {
-        Failure::NoOutput
+        Self::NoOutput
     }
 }
