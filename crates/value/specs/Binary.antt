@@ -3,7 +3,7 @@
 use Rattle.std.specs.Prelude.{ℕ, zero, suc, Bool, cond, not, ◌&&◌, ◌||◌, ℤ, pos, negsuc, ◌+ℤ◌, ◌-ℤ◌, ◌*ℤ◌, Ok, Err, Result, ◌==◌, int_div, int_le, int_lt, int_rem, nat_le}
 use Rattle.std.specs.Int.{int_wrap, w64}
 use Rattle.reason.specs.declared.faults.RunFault.TheVariants.{ZeroDivisor}
-use Rattle.value.specs.Values.{Given, misfit, truth, bit}
+use Rattle.value.specs.Values.{Given, misfit, truth, bit, with_char, with_int, with_bool, with_pointer}
 use Rattle.value.specs.declared.values.Stop.{Stop}
 use Rattle.value.specs.declared.values.Stop.TheVariants.{Fault, Misfit}
 use Rattle.value.specs.declared.values.Value.{Value}
@@ -45,11 +45,11 @@ computed code a b =
 
 -- the numbers of two values of one kind
 abbrev pub numbers_of : Value → Value → Result (ℤ × ℤ) Stop
-numbers_of (value.Char a) (value.Char b) = Ok (pos a, pos b)
-numbers_of (value.Int a) (value.Int b) = Ok (a, b)
-numbers_of (value.Bool a) (value.Bool b) = Ok (bit a, bit b)
-numbers_of (value.Pointer a) (value.Pointer b) = Ok (a, b)
-numbers_of _ _ = Err Misfit
+numbers_of value.Nothing r = Err Misfit
+numbers_of (value.Char a) r = with_char r (λ b. Ok (pos a, pos b))
+numbers_of (value.Int a) r = with_int r (λ b. Ok (a, b))
+numbers_of (value.Bool a) r = with_bool r (λ b. Ok (bit a, bit b))
+numbers_of (value.Pointer a) r = with_pointer r (λ b. Ok (a, b))
 
 -- a test of two numbers
 abbrev pub tested : (ℤ → ℤ → Bool) → Result (ℤ × ℤ) Stop → Given
@@ -62,8 +62,11 @@ matched f l r = tested f (numbers_of l r)
 
 -- the same, but for bools
 abbrev pub compared : (ℤ → ℤ → Bool) → Value → Value → Given
+compared f value.Nothing r = misfit
+compared f (value.Char a) r = matched f (value.Char a) r
+compared f (value.Int a) r = matched f (value.Int a) r
 compared f (value.Bool a) r = misfit
-compared f l r = matched f l r
+compared f (value.Pointer a) r = matched f (value.Pointer a) r
 
 abbrev pub integral : Result ℤ Stop → Given
 integral (Ok z) = Ok (value.Int z)
@@ -71,8 +74,7 @@ integral (Err s) = Err s
 
 -- the four groups of operators, by the kinds that they take
 abbrev pub connective : ℕ → Value → Value → Given
-connective code (value.Bool a) (value.Bool b) = truth (connected code a b)
-connective code _ _ = misfit
+connective code l r = with_bool l (λ a. with_bool r (λ b. truth (connected code a b)))
 
 abbrev pub equality : ℕ → Value → Value → Given
 equality code l r = matched (equated code) l r
@@ -81,8 +83,7 @@ abbrev pub comparison : ℕ → Value → Value → Given
 comparison code l r = compared (ordered code) l r
 
 abbrev pub arithmetic : ℕ → Value → Value → Given
-arithmetic code (value.Int a) (value.Int b) = integral (computed code a b)
-arithmetic code _ _ = misfit
+arithmetic code l r = with_int l (λ a. with_int r (λ b. integral (computed code a b)))
 
 -- what an operator gives, by the range that its code lies in
 abbrev pub evaluated : ℕ → Value → Value → Given

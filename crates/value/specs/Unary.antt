@@ -1,16 +1,18 @@
 -- The unary operators, by their codes: 1 ! · 2 + · 3 -; and casts. Assumes nothing.
 use Rattle.std.specs.Prelude.{ℕ, cond, not, ℤ, pos, neg_ℤ, Ok, ◌==◌, unsigned_abs}
 use Rattle.std.specs.Int.{int_rem_euclid, int_wrap, w64}
-use Rattle.value.specs.Values.{Given, misfit, truth}
+use Rattle.value.specs.Values.{Given, misfit, truth, with_int, with_bool}
 use Rattle.value.specs.declared.kinds.Kind.{Kind}
 use Rattle.value.specs.declared.kinds.Kind.TheVariants as kind
 use Rattle.value.specs.declared.values.Value.{Value}
 use Rattle.value.specs.declared.values.Value.TheVariants as value
 
 abbrev pub applied : ℕ → Value → Given
-applied code (value.Bool b) = cond (code == 1) (truth (not b)) misfit
-applied code (value.Int n) = cond (code == 2) (Ok (value.Int n)) (cond (code == 3) (Ok (value.Int (int_wrap w64 (neg_ℤ n)))) misfit)
-applied code _ = misfit
+applied code v =
+    cond (code == 1) (with_bool v (λ b. truth (not b)))
+    (cond (code == 2) (with_int v (λ n. Ok (value.Int n)))
+    (cond (code == 3) (with_int v (λ n. Ok (value.Int (int_wrap w64 (neg_ℤ n)))))
+    misfit))
 
 -- a number modulo 256, never negative
 abbrev pub low_byte : ℤ → ℕ

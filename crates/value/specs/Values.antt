@@ -1,5 +1,5 @@
 -- Values: nothing, or a number with its kind. Assumes nothing.
-use Rattle.std.specs.Prelude.{Bool, true, false, ℤ, pos, Some, None, Ok, Err, Option, Result}
+use Rattle.std.specs.Prelude.{ℕ, Bool, true, false, ℤ, pos, Some, None, Ok, Err, Option, Result}
 use Rattle.value.specs.declared.kinds.Kind.{Kind}
 use Rattle.value.specs.declared.kinds.Kind.TheVariants as kind
 use Rattle.value.specs.declared.values.Stop.{Stop}
@@ -36,3 +36,32 @@ misfit = Err Misfit
 
 abbrev pub truth : Bool → Given
 truth b = Ok (value.Bool b)
+
+-- a rule that fits one kind alone
+abbrev pub with_char : {X : Type 0} → Value → (ℕ → Result X Stop) → Result X Stop
+with_char value.Nothing f = Err Misfit
+with_char (value.Char c) f = f c
+with_char (value.Int n) f = Err Misfit
+with_char (value.Bool b) f = Err Misfit
+with_char (value.Pointer n) f = Err Misfit
+
+abbrev pub with_int : {X : Type 0} → Value → (ℤ → Result X Stop) → Result X Stop
+with_int value.Nothing f = Err Misfit
+with_int (value.Char c) f = Err Misfit
+with_int (value.Int n) f = f n
+with_int (value.Bool b) f = Err Misfit
+with_int (value.Pointer n) f = Err Misfit
+
+abbrev pub with_bool : {X : Type 0} → Value → (Bool → Result X Stop) → Result X Stop
+with_bool value.Nothing f = Err Misfit
+with_bool (value.Char c) f = Err Misfit
+with_bool (value.Int n) f = Err Misfit
+with_bool (value.Bool b) f = f b
+with_bool (value.Pointer n) f = Err Misfit
+
+abbrev pub with_pointer : {X : Type 0} → Value → (ℤ → Result X Stop) → Result X Stop
+with_pointer value.Nothing f = Err Misfit
+with_pointer (value.Char c) f = Err Misfit
+with_pointer (value.Int n) f = Err Misfit
+with_pointer (value.Bool b) f = Err Misfit
+with_pointer (value.Pointer n) f = f n
