@@ -75,10 +75,14 @@ laid_value v m = laid_as (kind_of v) v m
 abbrev pub given_up : ℕ → Memory → Memory
 given_up mark m = record { cells = row_put m.cells mark (replicate (m.used - mark) Dead); used = min mark m.used; blocks = m.blocks }
 
+-- the size of a block; a row of no cells is none
+abbrev pub block_of : ℕ → Option ℕ
+block_of n = cond (nat_le 1 n) (Some n) None
+
 -- a block of `new` in the lowest row that is long enough
 abbrev pub block_at : Option ℕ → List Kind → Memory → After ℤ
 block_at None ks m = refuses (Fault runfault.HeapFull) m
-block_at (Some i) ks m = (Ok (pos (1025 + i)), record { cells = row_put m.cells (1024 + i) (fresh ks); used = m.used; blocks = slice_set m.blocks i (Some (length ks)) })
+block_at (Some i) ks m = (Ok (pos (1025 + i)), record { cells = row_put m.cells (1024 + i) (fresh ks); used = m.used; blocks = slice_set m.blocks i (block_of (length ks)) })
 
 abbrev pub new_block : List Kind → Memory → After ℤ
 new_block ks m = cond (nat_le (length ks) 1024) (block_at (first_row (drop 1024 m.cells) (length ks)) ks m) (refuses (Fault runfault.HeapFull) m)
