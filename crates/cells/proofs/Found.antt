@@ -79,7 +79,7 @@ lowest_of : (cs : List Cell) (n : ℕ) (o : Option ℕ) → 1 ≤ n → LowestFr
 lowest_of cs n (Some k) some l = (l.2, λ j high r. l.3 j (omega arith) high r)
 lowest_of cs n None some l = λ j r. l j (omega arith) (omega (arith, r.0)) r
 
-first_lowest : (cs : List Cell) (n : ℕ) → 1 ≤ n → Lowest cs n (first_row cs n)
+pub first_lowest : (cs : List Cell) (n : ℕ) → 1 ≤ n → Lowest cs n (first_row cs n)
 unfolding first_row
 first_lowest cs n some = lowest_of cs n (first_from cs n 0 (length cs)) some (lowest_from cs n 0 (length cs) (omega arith))
 

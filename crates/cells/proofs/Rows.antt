@@ -1,20 +1,51 @@
 -- Rows of cells put into the table. Assumes nothing.
-use Rattle.std.proofs.Common.{◌≡◌, ℕ, zero, suc, ◌+◌, ◌<◌, ◌≤◌, min, List, ◌∷◌, ◌++◌, length, take, drop, set, replicate, Some, None, sym, refl, ap, ◌∙◌, arith}
-use Rattle.std.proofs.lemmas.List.{append_assoc, drop-drop, drop-set-lt, drop_more, length-map, length-set, set_past, take-append-drop, take_more_set}
+use Rattle.std.proofs.Common.{◌≡◌, ◌≢◌, ℕ, zero, suc, ◌+◌, ◌<◌, ◌≤◌, min, List, [], ◌∷◌, ◌++◌, length, get_or, take, drop, set, replicate, Some, None, Option, sym, refl, ap, ◌∙◌, arith}
+use Rattle.std.proofs.lemmas.List.{append_assoc, drop-drop, drop-set-lt, drop_more, get_or-set_other, length-map, length-set, set_past, take-append-drop, take_more_set}
 use Rattle.std.proofs.lemmas.Option.{get_or_from_slice_get, slice_get-get_or, slice_get_within}
 use Rattle.value.specs.declared.kinds.Kind.TheVariants.{Char}
 use Rattle.value.specs.declared.kinds.Kind.{Kind}
 use Rattle.cells.specs.Layouts.{kind_at, fresh}
-use Rattle.cells.specs.Memory.{Memory, row_in, with_cells}
+use Rattle.cells.specs.Memory.{IsMemory, Memory, row_in, with_cells}
 use Rattle.cells.specs.Rows.{row_put}
 use Rattle.cells.specs.declared.cell.Cell.{Cell}
-use Rattle.cells.specs.declared.cell.Cell.TheVariants.{Unwritten}
+use Rattle.cells.specs.declared.cell.Cell.TheVariants.{Dead, Unwritten}
 
 pub length-fresh : (ks : List Kind) → length (fresh ks) ≡ length ks
 length-fresh ks = length-map ks Unwritten
 
+length-row_put : (cs : List Cell) (i : ℕ) (row : List Cell) → length (row_put cs i row) ≡ length cs
+length-row_put cs i [] = refl
+length-row_put cs i (x ∷ xs) = length-row_put (set cs i x) (i + 1) xs ∙ length-set cs i x
+
+-- with a row put in, a memory is still one
+pub row_in_memory : (at : ℕ) (row : List Cell) (m : Memory) → IsMemory m → IsMemory (row_in at row m)
+row_in_memory at row m h = record { cells = length-row_put m.cells at row ∙ h.cells; used = h.used; blocks = h.blocks; some = h.some }
+
+-- a row changes no cell below it
+below_row : (cs : List Cell) (i : ℕ) (row : List Cell) (j : ℕ) → j < i → get_or (row_put cs i row) j Dead ≡ get_or cs j Dead
+below_row cs i [] j h = refl
+below_row cs i (x ∷ xs) j h = below_row (set cs i x) (i + 1) xs j (omega arith) ∙ get_or-set_other cs i j x Dead (λ e. omega (arith, e))
+
+dead_set : (cs : List Cell) (i : ℕ) → get_or (set cs i Dead) i Dead ≡ Dead
+dead_set [] i = refl
+dead_set (c ∷ cs) zero = refl
+dead_set (c ∷ cs) (suc i) = dead_set cs i
+
+-- the first cell of a row that dies is dead
+pub dead_first : (cs : List Cell) (i n : ℕ) → 1 ≤ n → get_or (row_put cs i (replicate n Dead)) i Dead ≡ Dead
+dead_first cs i zero h = absurd (omega arith)
+dead_first cs i (suc n) h = below_row (set cs i Dead) (i + 1) (replicate n Dead) i (omega arith) ∙ dead_set cs i
+
+-- a block of a cell or more is not one of none
+abbrev size_in : Option ℕ → ℕ
+size_in None = 0
+size_in (Some n) = n
+
+pub some_cells : (n : ℕ) → 1 ≤ n → Some n ≢ Some 0
+some_cells n h e = let none : n ≡ 0 = ap size_in e in omega arith
+
 -- the kind at i comes before the rest
-kind_first : (ks : List Kind) (i : ℕ) (k : Kind) → Some k ≡ kind_at ks i → drop i ks ≡ k ∷ drop (i + 1) ks
+pub kind_first : (ks : List Kind) (i : ℕ) (k : Kind) → Some k ≡ kind_at ks i → drop i ks ≡ k ∷ drop (i + 1) ks
 kind_first ks i k e = drop_more ks i k (slice_get_within ks i k (sym e)) ∙ ap (λ x. x ∷ drop (i + 1) ks) (get_or_from_slice_get ks i k k (sym e))
 
 pub kind_there : (ks : List Kind) (i : ℕ) → i < length ks → None ≡ kind_at ks i → ⊥

@@ -1,7 +1,7 @@
 -- What the calls on the memory leave as it was, and what `new` finds. Assumes nothing.
 use Rattle.std.specs.Prelude.{◌≡◌, ℕ, ◌+◌, ◌<◌, ◌≤◌, List, map, length, take, drop, ℤ, pos, Some, None, Ok, Err, Option, Result, slice_index_or}
 use Rattle.value.specs.declared.values.Stop.{Stop}
-use Rattle.cells.specs.Cells.{kind_in}
+use Rattle.cells.specs.Cells.{cell_at, kind_in}
 use Rattle.cells.specs.Memory.{Memory, deleted}
 use Rattle.cells.specs.declared.cell.Cell.{Cell}
 use Rattle.cells.specs.declared.cell.Cell.TheVariants.{Dead}
@@ -35,6 +35,11 @@ Lowest cs n None = (j : ℕ) → DeadRow cs j n → ⊥
 abbrev pub Finds : List Cell → ℕ → Result ℤ Stop → Type 0
 Finds heap n (Ok a) = (i : ℕ) × (a ≡ pos (1025 + i)) × Lowest heap n (Some i)
 Finds heap n (Err s) = Lowest heap n None
+
+-- where `del` is no fault, the cell at the address is dead
+abbrev pub Dies : ℤ → Result Unit Stop → Memory → Type 0
+Dies a (Ok u) m = cell_at m.cells a ≡ Dead
+Dies a (Err s) m = Unit
 
 -- `del` of what `new` gave restores every cell
 abbrev pub Restores : Memory → Result ℤ Stop → Memory → Type 0

@@ -1,5 +1,6 @@
 -- The memory of a run: cells, how many of them variables use, and the blocks of `new`. Assumes nothing.
-use Rattle.std.specs.Prelude.{◌≡◌, ℕ, ◌+◌, ◌-◌, ◌≤◌, min, cond, List, [], ◌∷◌, length, drop, replicate, ℤ, pos, Some, None, Ok, Err, Option, Result, nat_le, slice_index_or, slice_set}
+use Rattle.std.specs.Prelude.{◌≡◌, ℕ, ◌+◌, ◌-◌, ◌≤◌, min, cond, ◌≢◌, List, [], ◌∷◌, length, drop, replicate, ℤ, pos, Some, None, Ok, Err, Option, Result, nat_le, slice_index_or, slice_set}
+use Rattle.std.specs.List.{All}
 use Rattle.reason.specs.declared.faults.RunFault.TheVariants as runfault
 use Rattle.value.specs.Values.{kind_of}
 use Rattle.value.specs.declared.kinds.Kind.{Kind}
@@ -19,11 +20,12 @@ pub record Memory : Type 0 where
   -- at i the size of the block that begins at cell 1,025 + i, where one does
   pub blocks : List (Option ℕ)
 
--- every store has 2,048 cells, uses at most 1,024 of them for variables, and may have a block at each of the others
+-- every store has 2,048 cells, uses at most 1,024 of them for variables, and may have a block at each of the others, of a cell or more
 pub record IsMemory (m : Memory) : Type 0 where
   pub cells : length m.cells ≡ 2048
   pub used : m.used ≤ 1024
   pub blocks : length m.blocks ≡ 1024
+  pub some : All (λ b. b ≢ Some 0) m.blocks
 
 -- every cell is dead
 abbrev pub empty : Memory
@@ -87,10 +89,13 @@ block_at (Some i) ks m = (Ok (pos (1025 + i)), record { cells = row_put m.cells 
 abbrev pub new_block : List Kind → Memory → After ℤ
 new_block ks m = cond (nat_le (length ks) 1024) (block_at (first_row (drop 1024 m.cells) (length ks)) ks m) (refuses (Fault runfault.HeapFull) m)
 
--- the block that begins at a place dies
+-- the block that begins at a place dies; one of no cells is none
 abbrev pub drop_block : ℕ → Option ℕ → Memory → After Unit
 drop_block i None m = refuses (Fault runfault.NotABlock) m
-drop_block i (Some n) m = (Ok tt, record { cells = row_put m.cells (1024 + i) (replicate n Dead); used = m.used; blocks = slice_set m.blocks i None })
+drop_block i (Some n) m =
+    cond (nat_le 1 n)
+    (Ok tt, record { cells = row_put m.cells (1024 + i) (replicate n Dead); used = m.used; blocks = slice_set m.blocks i None })
+    (refuses (Fault runfault.NotABlock) m)
 
 abbrev pub deleted_at : Option ℕ → Memory → After Unit
 deleted_at None m = refuses (Fault runfault.NotABlock) m

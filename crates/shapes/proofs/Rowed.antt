@@ -157,8 +157,8 @@ module _ (t : Inside) (held : Held t) (ss : List Shape) (same : shapes_of t.rows
         below = below;
       })
 
-pub measured_some : (m n : ℕ) → Some m ≡ measured n → m ≡ n
-measured_some m n e = grind (arith, nat_tests)
+pub measured_some : (m n : ℕ) → Some m ≡ measured n → (m ≡ n) × (m ≤ 1024)
+measured_some m n e = (grind (arith, nat_tests), grind (arith, nat_tests))
 
 pub sizes_hold : Sizes
 sizes_hold = record {

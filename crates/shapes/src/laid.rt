@@ -1,5 +1,5 @@
 ghost use Rattle.std.specs.Prelude.{◌≤◌, length};
-ghost use Rattle.shapes.specs.Tables.{kinds_at};
+ghost use Rattle.shapes.specs.Tables.{IsTable, kinds_at};
 
 use crate::tables::Shapes;
 
@@ -11,4 +11,5 @@ pub struct Laid<'a> {
     table: &'a Shapes,
     place: usize,
     ghost there: { 1 ≤ length (kinds_at table.now place) },
+    ghost whole: { IsTable table.now },
 }

@@ -18,6 +18,7 @@ impl Findings {
     pub fn add(&mut self, number: i64) -> Result<(), Stop>
         ensures result { result ≡ (added number self.old).0 }
         ensures after { self.new ≡ (added number self.old).1 }
+        ensures few { (length self.old ≤ 32) × (length self.new ≤ 32) }
     {
         if self.numbers.len() >= 32 {
             return Err(RunFault::FindingsFull.into());
@@ -36,13 +37,15 @@ impl Findings {
 
     // Finding k, counted from 0; nothing from the count on.
     pub fn get(&self, k: usize) -> Option<i64>
-        ensures { result ≡ number_at self.now k }
+        ensures value { result ≡ number_at self.now k }
+        ensures few { length self.now ≤ 32 }
     {
         self.numbers.get(k).copied()
     }
 
     pub fn clear(&mut self)
-        ensures { self.new ≡ [] }
+        ensures after { self.new ≡ [] }
+        ensures few { length self.old ≤ 32 }
     {
         self.numbers.clear();
     }

@@ -1,6 +1,6 @@
 ghost use Rattle.std.specs.Prelude.{◌≡◌, length, drop};
-ghost use Rattle.cells.specs.Laws.{Finds, LeavesVariables, Restores};
-ghost use Rattle.cells.specs.Memory.{deleted, new_block};
+ghost use Rattle.cells.specs.Laws.{Dies, Finds, LeavesVariables, Restores};
+ghost use Rattle.cells.specs.Memory.{IsMemory, deleted, new_block};
 
 use super::Store;
 use crate::cell::{address_of, index_of};
@@ -17,6 +17,7 @@ impl Store {
         ensures lowest { Finds (drop 1024 self.old.cells) (length (L.kinds layout.now)) result }
         ensures undone { Restores self.old result self.new }
         ensures variables { LeavesVariables self.old self.new }
+        ensures memory { IsMemory self.old × IsMemory self.new }
     {
         let size = layout.size();
         if size > self.blocks.len() {
@@ -32,8 +33,12 @@ impl Store {
     pub fn delete(&mut self, address: i64) -> Result<(), Stop>
         ensures result { result ≡ (deleted address self.old).0 }
         ensures after { self.new ≡ (deleted address self.old).1 }
+        ensures dies { Dies address result self.new }
         ensures variables { LeavesVariables self.old self.new }
+        ensures memory { IsMemory self.old × IsMemory self.new }
     {
+        // Where a field is read, the proof learns what is true of every store.
+        let _blocks = &self.blocks;
         let place = index_of(address).ok_or(RunFault::NotABlock)?;
         let i = place.checked_sub(1024).ok_or(RunFault::NotABlock)?;
         let size = self.blocks[i].take().ok_or(RunFault::NotABlock)?;

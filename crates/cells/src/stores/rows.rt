@@ -1,6 +1,6 @@
 ghost use Rattle.std.specs.Prelude.{◌≡◌, ◌+◌, ◌^◌, ◌<◌, length, replicate, drop, slice_set};
 ghost use Rattle.cells.specs.Layouts.{fresh};
-ghost use Rattle.cells.specs.Memory.{row_in, with_cells};
+ghost use Rattle.cells.specs.Memory.{IsMemory, row_in, with_cells};
 ghost use Rattle.cells.specs.declared.cell.Cell.TheVariants.{Dead};
 
 use super::Store;
@@ -18,7 +18,8 @@ impl Store {
 
     // Replaces the cell at a place, counted from 0; nothing is changed where there is none.
     pub(super) fn put(&mut self, place: usize, cell: Cell)
-        ensures { self.new ≡ with_cells self.old (slice_set self.old.cells place cell) }
+        ensures after { self.new ≡ with_cells self.old (slice_set self.old.cells place cell) }
+        ensures memory { IsMemory self.new }
     {
         if let Some(old) = self.cells.get_mut(place) {
             *old = cell;
@@ -40,7 +41,8 @@ impl Store {
     // A row of cells dies, as far as it lies in the table.
     pub(super) fn clear(&mut self, at: usize, size: usize)
         requires { at + size < 2 ^ 32 }
-        ensures { self.new ≡ row_in at (replicate size Dead) self.old }
+        ensures after { self.new ≡ row_in at (replicate size Dead) self.old }
+        ensures memory { IsMemory self.new }
     {
         let end = self.cells.len().min(at + size);
         if at < end {

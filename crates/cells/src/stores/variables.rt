@@ -24,6 +24,7 @@ impl Store {
         ensures after { self.new ≡ (laid (L.kinds layout.now) self.old).1 }
         ensures heap { LeavesHeap self.old self.new }
         ensures first { KeepsFirst self.old.used self.old self.new }
+        ensures memory { IsMemory self.old × IsMemory self.new }
     {
         let size = layout.size();
         let used = self.used;
@@ -41,6 +42,7 @@ impl Store {
         ensures after { self.new ≡ (laid_value value self.old).1 }
         ensures heap { LeavesHeap self.old self.new }
         ensures first { KeepsFirst self.old.used self.old self.new }
+        ensures memory { IsMemory self.old × IsMemory self.new }
     {
         let used = self.used;
         if value.kind().is_none() {
@@ -59,6 +61,7 @@ impl Store {
         ensures after { self.new ≡ given_up mark self.old }
         ensures heap { LeavesHeap self.old self.new }
         ensures first { KeepsFirst mark self.old self.new }
+        ensures memory { IsMemory self.old × IsMemory self.new }
     {
         let used = self.used;
         if mark < used {

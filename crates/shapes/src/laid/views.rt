@@ -1,7 +1,7 @@
 ghost use Rattle.std.specs.Prelude.{◌≡◌};
 ghost use Rattle.std.specs.Option.{option_map};
 ghost use Rattle.shapes.specs.Laid.{kinds_in, laid_at};
-ghost use Rattle.shapes.specs.Tables.{kinds_at};
+ghost use Rattle.shapes.specs.Tables.{IsTable, kinds_at};
 
 use super::Laid;
 use crate::tables::Shapes;
@@ -11,7 +11,8 @@ use value::kinds::Kind;
 impl Shapes {
     // The shape at a place as a layout; nothing where there is none.
     pub fn laid(&self, place: usize) -> Option<Laid<'_>>
-        ensures { option_map kinds_in result ≡ laid_at (kinds_at self.now place) }
+        ensures value { option_map kinds_in result ≡ laid_at (kinds_at self.now place) }
+        ensures table { IsTable self.now }
     {
         self.row(place)?;
         Some(Laid { table: self, place })

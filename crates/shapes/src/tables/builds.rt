@@ -54,6 +54,7 @@ impl Shapes {
     pub fn add(&mut self, shape: Shape) -> Option<usize>
         ensures result { result ≡ (added shape self.old).0 }
         ensures after { self.new ≡ (added shape self.old).1 }
+        ensures table { IsTable self.old × IsTable self.new }
     {
         let place = self.rows.len();
         if place >= 2000 || !refers_below(shape, place) {

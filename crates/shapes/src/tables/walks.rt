@@ -1,6 +1,6 @@
 ghost use Rattle.std.specs.Prelude.{◌≡◌};
 ghost use Rattle.cells.specs.Layouts.{kind_at};
-ghost use Rattle.shapes.specs.Tables.{kinds_at};
+ghost use Rattle.shapes.specs.Tables.{IsTable, kinds_at};
 
 use super::Shapes;
 use crate::forms::Shape;
@@ -10,7 +10,8 @@ impl Shapes {
     // The kind of cell i, counted from 0, of the shape at a place.
     #[tactic(auto, using(crate::proofs::Rowed::kind_past, crate::proofs::Rowed::kind_left, crate::proofs::Rowed::kind_right, crate::proofs::Rowed::kind_repeated))]
     pub fn kind(&self, place: usize, i: usize) -> Option<Kind>
-        ensures { result ≡ kind_at (kinds_at self.now place) i }
+        ensures value { result ≡ kind_at (kinds_at self.now place) i }
+        ensures table { IsTable self.now }
     {
         let row = self.row(place)?;
         if i >= row.size {

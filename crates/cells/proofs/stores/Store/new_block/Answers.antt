@@ -1,15 +1,17 @@
-use Rattle.std.proofs.Common.{◌≡◌, ◌+◌, length, get_or, drop, pos, None, Some, Err, sym, refl, ap, ◌∙◌, subst, arith, rules, w64, SFits}
+use Rattle.std.proofs.Common.{◌≡◌, ◌≢◌, ◌+◌, length, get_or, set, drop, pos, None, Some, Err, sym, refl, ap, ◌∙◌, subst, arith, rules, w64, SFits}
 use Rattle.std.proofs.lemmas.Int.{to_z-of_z}
-use Rattle.std.proofs.lemmas.List.{length-drop, get_or-set_same}
+use Rattle.std.proofs.lemmas.List.{length-drop, length-set, get_or-set_same}
+use Rattle.std.proofs.lemmas.List.Elements.{All-set}
 use Rattle.reason.specs.declared.faults.RunFault.TheVariants.{HeapFull}
 use Rattle.value.specs.declared.values.Stop.TheVariants.{Fault}
 use Rattle.cells.specs.Laws.{Finds}
 use Rattle.cells.specs.Layouts.{fresh}
+use Rattle.cells.specs.Memory.{IsMemory, Memory}
 use Rattle.cells.specs.Rows.{row_put}
 use Rattle.cells.proofs.Found.{found_lowest}
 use Rattle.cells.proofs.Kept.{take-row_put}
 use Rattle.cells.proofs.Restored.{deleted_back}
-use Rattle.cells.proofs.Rows.{length-fresh}
+use Rattle.cells.proofs.Rows.{length-fresh, row_in_memory, some_cells}
 use Rattle.cells.proofs.stores.Store.new_block.Goals as goal
 
 pub returns-then-size-len-clause-lowest : goal.returns-then-size-len-clause-lowest
@@ -46,3 +48,13 @@ returns-clause-undone g c =
 pub returns-clause-variables : goal.returns-clause-variables
 returns-clause-variables g c =
     rw (c.revive.ensures, ← c.self.view_is) (take-row_put 1024 c.self.inside.cells.items (1024 + c.in_ok-i.i) (fresh (g.L.Layout.kinds c.args.layout.now)) (omega arith), refl)
+
+pub returns-clause-memory : goal.returns-clause-memory
+returns-clause-memory g c =
+    let held = c.self.invariant in
+    let bs = c.self.inside.blocks.items in
+    let i = c.in_ok-i.i in
+    let some = All-set (λ b. b ≢ Some 0) bs i (Some c.size-size.result) (some_cells _ c.size-size.ensures.some) held.some in
+    let m : Memory = record { cells = c.self.inside.cells.items; used = c.self.inside.used; blocks = set bs i (Some c.size-size.result) } in
+    let more : IsMemory m = record { cells = held.cells; used = held.used; blocks = length-set bs i (Some c.size-size.result) ∙ held.blocks; some = some } in
+    (rw (← c.self.view_is) held, rw c.revive.ensures (row_in_memory (1024 + i) (fresh (g.L.Layout.kinds c.args.layout.now)) m more))

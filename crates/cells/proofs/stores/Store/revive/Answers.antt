@@ -12,7 +12,7 @@ loop-i-preserved g c =
     let within : i < length ks = omega arith in
     let m = c.loop-i.self in
     let more : row_in (c.args.at + (i + 1)) (fresh (drop (i + 1) ks)) c.match-kind.self ≡ row_in (c.args.at + i) (fresh (drop i ks)) m = elim c.match-kind.branch [
-      | in-Some w ↦ revive_more m _ c.args.at i ks w.in-Some.kind w.in-Some.ensures (w.self-is ∙ w.put.ensures)
+      | in-Some w ↦ revive_more m _ c.args.at i ks w.in-Some.kind w.in-Some.ensures (w.self-is ∙ w.put.ensures.after)
       | in_default w ↦ absurd (kind_there ks i within w.in_default.ensures)
     ] in
     more ∙ c.loop-i.invariant

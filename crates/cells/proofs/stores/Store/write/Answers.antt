@@ -6,6 +6,6 @@ use Rattle.cells.proofs.stores.Store.write.Goals as goal
 pub returns-in-Some-clause-kinds : goal.returns-in-Some-clause-kinds
 returns-in-Some-clause-kinds c =
     let cs = c.args.self.now.cells in
-    let old = c.cell.ensures ∙ ap (λ o. at o cs) (sym c.index_of.ensures.value ∙ c.in-Some.is) in
+    let old = c.cell.ensures.value ∙ ap (λ o. at o cs) (sym c.index_of.ensures.value ∙ c.in-Some.is) in
     let same = written_kind c.args.value c.cell.result c.in_ok-cell.cell (sym c.written.ensures ∙ c.in_ok-cell.was) in
-    rw c.put.ensures (set_same_kind cs c.in-Some.place c.in_ok-cell.cell (same ∙ ap kind_in old))
+    rw c.put.ensures.after (set_same_kind cs c.in-Some.place c.in_ok-cell.cell (same ∙ ap kind_in old))
