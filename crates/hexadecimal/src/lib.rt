@@ -1,24 +1,33 @@
 // Byte strings as hexadecimal text.
 #![tactic(auto)]
 
-ghost use Rattle.std.specs.Prelude.{◌≡◌, ◌<◌, IfOk, Some, vec_items, string_bytes};
+ghost use Rattle.std.specs.Prelude.{◌≡◌, ◌<◌, IfOk, IfSome, Some, vec_items, string_bytes};
 ghost use Rattle.std.specs.Option.{option_map};
 ghost use Rattle.hexadecimal.specs.Digits.{digit_of, glyph_of, pair_of};
 ghost use Rattle.hexadecimal.specs.Texts.{bytes_of, text_of};
 
 use std::alloc::{AllocError, Global};
 
-fn digit(c: u8) -> Option<u32>
-    ensures { result ≡ digit_of c }
+fn digit(c: u8) -> Option<u8>
+    ensures value { result ≡ digit_of c }
+    ensures small { IfSome result (λ n. n < 16) }
 {
-    char::from(c).to_digit(16)
+    if c.is_ascii_digit() {
+        Some(c - b'0')
+    } else if (b'a'..=b'f').contains(&c) {
+        Some(c - b'a' + 10)
+    } else if (b'A'..=b'F').contains(&c) {
+        Some(c - b'A' + 10)
+    } else {
+        None
+    }
 }
 
 // The byte that two digits stand for.
 fn pair(high: u8, low: u8) -> Option<u8>
     ensures { result ≡ pair_of high low }
 {
-    Some((16 * digit(high)? + digit(low)?) as u8)
+    Some(16 * digit(high)? + digit(low)?)
 }
 
 // The bytes that hexadecimal text stands for, two digits a byte, in either case; nothing where the text is no such thing.
