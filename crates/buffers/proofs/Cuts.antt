@@ -7,7 +7,7 @@ pub length-records : (n : ℕ) (bs : List ℕ) → length (records n bs) ≡ n
 length-records zero bs = refl
 length-records (suc n) bs = ap suc (length-records n (drop 18 bs))
 
-record_from : (n : ℕ) (bs : List ℕ) (i : ℕ) → i < n → get_or (records n bs) i [] ≡ take 18 (drop (18 * i) bs)
+pub record_from : (n : ℕ) (bs : List ℕ) (i : ℕ) → i < n → get_or (records n bs) i [] ≡ take 18 (drop (18 * i) bs)
 record_from zero bs i h = absurd (omega arith)
 record_from (suc n) bs zero h = refl
 record_from (suc n) bs (suc i) h =

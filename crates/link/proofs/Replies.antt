@@ -15,7 +15,7 @@ use Rattle.link.specs.Cars.{Short}
 pub held_short : {n : ℕ} (b : Buffer n) → n ≤ 64 → Short (held b)
 held_short b few = (omega (arith, length-take b.len b.bytes), Below-take 256 (lit< tt) b.len b.bytes b.fits)
 
-byte_there : (p : List ℕ) (i : ℕ) → i < length p → byte_at p i ≡ Some (get_or p i 0)
+pub byte_there : (p : List ℕ) (i : ℕ) → i < length p → byte_at p i ≡ Some (get_or p i 0)
 byte_there p i h = cond-true _ _ _ (lt-ltb _ _ h)
 
 -- the bytes from i on, read one by one
