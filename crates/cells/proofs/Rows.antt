@@ -1,5 +1,5 @@
 -- Rows of cells put into the table. Assumes nothing.
-use Rattle.std.proofs.Common.{◌≡◌, ◌≢◌, ℕ, zero, suc, ◌+◌, ◌<◌, ◌≤◌, min, List, [], ◌∷◌, ◌++◌, length, get_or, take, drop, set, replicate, Some, None, Option, sym, refl, ap, ◌∙◌, arith}
+use Rattle.std.proofs.Common.{◌≡◌, ◌≢◌, ℕ, zero, suc, ◌+◌, ◌<◌, ◌≤◌, min, List, [], ◌∷◌, ◌++◌, length, get_or, take, drop, set, replicate, Some, None, sym, refl, ap, ◌∙◌, arith}
 use Rattle.std.proofs.lemmas.List.{append_assoc, drop-drop, drop-set-lt, drop_more, get_or-set_other, length-map, length-set, set_past, take-append-drop, take_more_set}
 use Rattle.std.proofs.lemmas.Option.{get_or_from_slice_get, slice_get-get_or, slice_get_within}
 use Rattle.value.specs.declared.kinds.Kind.TheVariants.{Char}
@@ -37,12 +37,8 @@ dead_first cs i zero h = absurd (omega arith)
 dead_first cs i (suc n) h = below_row (set cs i Dead) (i + 1) (replicate n Dead) i (omega arith) ∙ dead_set cs i
 
 -- a block of a cell or more is not one of none
-abbrev size_in : Option ℕ → ℕ
-size_in None = 0
-size_in (Some n) = n
-
 pub some_cells : (n : ℕ) → 1 ≤ n → Some n ≢ Some 0
-some_cells n h e = let none : n ≡ 0 = ap size_in e in omega arith
+some_cells n h e = grind (arith, e, h)
 
 -- the kind at i comes before the rest
 pub kind_first : (ks : List Kind) (i : ℕ) (k : Kind) → Some k ≡ kind_at ks i → drop i ks ≡ k ∷ drop (i + 1) ks
